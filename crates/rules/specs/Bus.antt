@@ -1,0 +1,26 @@
+-- The token bus's rule: 01, "The token bus". t is the token, a station number.
+-- Assumes nothing.
+use Prim.Native.Nat.{ℕ, _+_, _%_}
+use mathlib.Core.Bool.{Bool, true, false}
+use mathlib.Core.List.{List, [], _∷_}
+use Rattle.rules.specs.declared.Head.the-variants.{At}
+use Rattle.rules.specs.RoundRobin as RoundRobin
+
+-- who is granted: "worked out anew in each cycle by the turn order from the token, with one pick"
+unfoldable pub granted : ℕ → ℕ → (ℕ → Bool) → List ℕ
+granted n t asks = RoundRobin.granted n 1 (At t) asks
+
+-- the grant buffer
+unfoldable pub grants : ℕ → ℕ → (ℕ → Bool) → List ℕ
+grants n t asks = RoundRobin.grants n 1 (At t) asks
+
+-- the token after a cycle with this acknowledge and these granted: "if there is a grant and acknowledge is 1, the token
+-- moves to the station after the token, modulo N, whoever was granted. Otherwise it stays"
+unfoldable pub after : ℕ → ℕ → Bool → List ℕ → ℕ
+after n t true (g ∷ gs) = (t + 1) % n
+after n t true [] = t
+after n t false gs = t
+
+-- the next token
+unfoldable pub next : ℕ → ℕ → Bool → (ℕ → Bool) → ℕ
+next n t acknowledged asks = after n t acknowledged (granted n t asks)

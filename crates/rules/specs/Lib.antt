@@ -1,0 +1,5 @@
+pub mod Lists
+pub mod RoundRobin
+pub mod Tree
+pub mod Thermometer
+pub mod Bus

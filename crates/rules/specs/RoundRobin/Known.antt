@@ -1,0 +1,56 @@
+-- 01, "Known turns": the twelve starred entries, as one list, and the claim that the rules give every one of them.
+-- Assumes nothing.
+use Prim.Native.Nat.{ℕ}
+use mathlib.Core.Bool.{Bool, true, false, _&&_}
+use mathlib.Core.List.{List, [], _∷_}
+use mathlib.Core.Path.{_≡_, refl}
+use lib.Dec.{eqb}
+use Rattle.rules.specs.declared.Head.{Head}
+use Rattle.rules.specs.declared.Head.the-variants.{None, At}
+use Rattle.rules.specs.Lists.{count, member}
+use Rattle.rules.specs.RoundRobin.{start, order, granted, after, next}
+use Rattle.rules.specs.Tree.{value, s1, s0, headAt, leaf, join, joined, nodes}
+use Rattle.rules.specs.Bus as Bus
+
+-- an entry: N, m, the head; who asks; who is granted, in turn order; the next head. On the bus, N, the token and
+-- acknowledge; who asks; who is granted; the next token. Of the tree, N, the head; who asks; the node buffer
+pub data Entry : Type 0 where
+  turn : ℕ → ℕ → Head → List ℕ → List ℕ → ℕ → Entry
+  bus : ℕ → ℕ → Bool → List ℕ → List ℕ → ℕ → Entry
+  tree : ℕ → Head → List ℕ → List ℕ → Entry
+
+pub starred : List Entry
+starred =
+    turn 4 1 (At 2) (0 ∷ 1 ∷ []) (0 ∷ []) 1
+    ∷ turn 4 1 (At 3) (3 ∷ []) (3 ∷ []) 0
+    ∷ turn 4 1 (At 1) [] [] 1
+    ∷ turn 4 1 None [] [] 3
+    ∷ turn 4 1 None (2 ∷ 3 ∷ []) (2 ∷ []) 3
+    ∷ turn 1 1 None [] [] 0
+    ∷ turn 4 3 (At 2) (0 ∷ 2 ∷ []) (2 ∷ 0 ∷ []) 1
+    ∷ turn 4 2 (At 3) (0 ∷ 1 ∷ 2 ∷ 3 ∷ []) (3 ∷ 0 ∷ []) 1
+    ∷ turn 4 4 (At 2) (0 ∷ 1 ∷ 2 ∷ 3 ∷ []) (2 ∷ 3 ∷ 0 ∷ 1 ∷ []) 2
+    ∷ bus 4 2 true (0 ∷ 1 ∷ []) (0 ∷ []) 3
+    ∷ bus 4 2 false (0 ∷ 1 ∷ []) (0 ∷ []) 2
+    ∷ tree 4 (At 2) (0 ∷ 1 ∷ []) (0 ∷ 2 ∷ 1 ∷ 2 ∷ 1 ∷ 1 ∷ 2 ∷ 0 ∷ [])
+    ∷ []
+
+-- the same numbers, in the same order
+same : List ℕ → List ℕ → Bool
+same [] [] = true
+same [] (y ∷ ys) = false
+same (x ∷ xs) [] = false
+same (x ∷ xs) (y ∷ ys) = eqb x y && same xs ys
+
+-- the rules give this entry
+pub right : Entry → Bool
+right (turn n m h asking out to) =
+    same (granted n m h (λ w. member w asking)) out && headAt (next n m h (λ w. member w asking)) to
+right (bus n t acknowledged asking out to) =
+    same (Bus.granted n t (λ w. member w asking)) out && eqb (Bus.next n t acknowledged (λ w. member w asking)) to
+right (tree n h asking out) = same (nodes n h (λ w. member w asking)) out
+
+-- all twelve
+pub known : count right starred ≡ 12
+unfolding starred same right start order granted after next Bus.granted Bus.after Bus.next value s1 s0 headAt leaf join joined nodes
+known = refl

@@ -1,0 +1,273 @@
+-- The laws of the round-robin rule. Every engine and every theorem above stands on these and sees nothing of the rule's inside.
+-- `start h < n` says that h is none or a station below n, and that there is a station.
+-- Assumes nothing.
+use Prim.Native.Nat.{ℕ, zero, suc, _+_, _-_, _%_, _≤_, _<_, min}
+use mathlib.Core.Path.{_≡_, refl, sym, ap, _∙_}
+use mathlib.Core.Bool.{Bool, true, false, _&&_}
+use mathlib.Core.Logic.{_⊎_, inl, inr, ⊎-elim, _≢_}
+use mathlib.Core.List.{List, [], _∷_, _++_, map, append-assoc, append-nil}
+use native.Mathlib.Omega.{arith}
+use native.Mathlib.Nat.{mod-eq-of-lt, mod-self, mod-lt, zero-add}
+use native.Mathlib.Numerals.{add-one}
+use lib.Dec.{ltb, leb, eqb}
+use borrow.Author.Tests.{ltb-true, ltb-false, leb-true, leb-false, eq-eqb}
+use lib.ListN.{length, take, getD, length-take, length-map}
+use Rattle.rules.specs.declared.Head.{Head}
+use Rattle.rules.specs.declared.Head.the-variants.{None, At}
+use Rattle.rules.specs.Lists.{bit, range, filter, count, member, before, last}
+use Rattle.rules.specs.Lists.Laws as Lists
+use Rattle.rules.specs.RoundRobin.{start, order, granted, grants, after, next}
+
+-- with no head station 0 comes first
+pub start-none : start None ≡ 0
+unfolding start
+start-none = refl
+
+-- the head comes first
+pub start-at : (h : ℕ) → start (At h) ≡ h
+unfolding start
+start-at h = refl
+
+-- the order that starts at s
+abbrev from : ℕ → ℕ → List ℕ
+from n s = range s (n - s) ++ range 0 s
+
+from-count : (n s : ℕ) (p : ℕ → Bool) → s ≤ n → count p (from n s) ≡ count p (range 0 n)
+from-count n s p l =
+    let whole : s + (n - s) ≡ n = omega arith in
+    let parts : range 0 n ≡ range 0 s ++ range s (n - s) = rw (whole, zero-add) at (Lists.range-append 0 s (n - s)) in
+    rw parts (omega (arith, Lists.count-append p (range s (n - s)) (range 0 s), Lists.count-append p (range 0 s) (range s (n - s))))
+
+-- one past s is s + 1, or 0 where s is the last station
+past : (n s : ℕ) → s < n → (((s + 1) % n ≡ suc s) × (suc s < n)) ⊎ (((s + 1) % n ≡ 0) × (suc s ≡ n))
+past n s l =
+    Lists.split (ltb (suc s) n)
+    (λ e. inl (rw add-one (mod-eq-of-lt (ltb-true (suc s) n e)), ltb-true (suc s) n e))
+    (λ e. let q : suc s ≡ n = omega (arith, ltb-false (suc s) n e) in inr (rw (add-one, q) (mod-self n), q))
+
+from-turned : (n s : ℕ) → s < n → (rest : List ℕ) × (from n s ≡ s ∷ rest) × (from n ((s + 1) % n) ≡ rest ++ (s ∷ []))
+from-turned n s l = (
+  range (suc s) (n - suc s) ++ range 0 s,
+  (let d : n - s ≡ suc (n - suc s) = omega arith in rw d),
+  ⊎-elim
+      (λ q. rw (q .0, Lists.range-snoc 0 s, zero-add) (sym (append-assoc (range (suc s) (n - suc s)) (range 0 s) (s ∷ []))))
+      (λ q.
+      let z : n - suc s ≡ 0 = omega arith in
+      let w : n - 0 ≡ suc s = omega arith in
+      rw (q .0, z, w, append-nil (range 0 (suc s)), Lists.range-snoc 0 s, zero-add))
+      (past n s l),
+)
+
+from-before-high : (n s w : ℕ) → s ≤ w → w < n → before w (from n s) ≡ range s (w - s)
+from-before-high n s w h l =
+    Lists.before-left w (range s (n - s)) (range 0 s) (Lists.member-range w s (n - s) h (omega arith))
+    ∙ Lists.before-range w s (n - s) h (omega arith)
+
+from-before-low : (n s w : ℕ) → w < s → before w (from n s) ≡ range s (n - s) ++ range 0 w
+from-before-low n s w h =
+    Lists.before-right w (range s (n - s)) (range 0 s) (Lists.below-range w s (n - s) h)
+    ∙ (let z : w - 0 ≡ w = omega arith in rw (Lists.before-range w 0 s (omega arith) (omega arith), z))
+
+range-more : (s w : ℕ) → s ≤ w → range s (suc w - s) ≡ range s (w - s) ++ (w ∷ [])
+range-more s w h =
+    let d : suc w - s ≡ suc (w - s) = omega arith in
+    let e : s + (w - s) ≡ w = omega arith in
+    rw d (rw e at (Lists.range-snoc s (w - s)))
+
+-- past the last station of the higher run comes station 0
+from-wraps : (n s w : ℕ) → s ≤ w → suc w ≡ n → range s (n - s) ≡ before w (from n s) ++ (w ∷ [])
+from-wraps n s w h e = rw (from-before-high n s w h (omega arith), ← e) (range-more s w h)
+
+from-low-more : (n s w : ℕ) → w < s → range s (n - s) ++ range 0 (suc w) ≡ before w (from n s) ++ (w ∷ [])
+from-low-more n s w h =
+    rw (from-before-low n s w h, append-assoc, Lists.range-snoc 0 w, zero-add)
+
+from-before-next : (n s w : ℕ) → s < n → w < n → (w + 1) % n ≢ s → before ((w + 1) % n) (from n s) ≡ before w (from n s) ++ (w ∷ [])
+from-before-next n s w k l d =
+    ⊎-elim
+    (λ q.
+    rw (q .0)
+    (Lists.split (leb s w)
+    (λ t.
+    let h : s ≤ w = leb-true s w t in
+    rw (from-before-high n s (suc w) (omega arith) (q .1), from-before-high n s w h l) (range-more s w h))
+    (λ t.
+    let other : suc w ≢ s = rw (q .0) at d in
+    let h : suc w < s = omega (arith, leb-false s w t) in
+    rw (from-before-low n s (suc w) h) (from-low-more n s w (omega arith)))))
+    (λ q.
+    let other : 0 ≢ s = rw (q .0) at d in
+    let h : 0 < s = omega arith in
+    rw (q .0, from-before-low n s 0 h, append-nil (range s (n - s))) (from-wraps n s w (omega arith) (q .1)))
+    (past n w l)
+
+from-end : (n s w : ℕ) → w < n → (w + 1) % n ≡ s → from n s ≡ before w (from n s) ++ (w ∷ [])
+from-end n s w l e =
+    ⊎-elim
+    (λ q.
+    let i : s ≡ suc w = sym e ∙ q .0 in
+    rw i (from-low-more n (suc w) w (omega arith)))
+    (λ q.
+    let i : s ≡ 0 = sym e ∙ q .0 in
+    rw (i) (append-nil (range 0 (n - 0)) ∙ from-wraps n 0 w (omega arith) (q .1)))
+    (past n w l)
+
+after-last : (n : ℕ) (h : Head) (front : List ℕ) (w : ℕ) → after n h (front ++ (w ∷ [])) ≡ At ((w + 1) % n)
+unfolding after
+after-last n h [] w = refl
+after-last n h (x ∷ front) w = rw (Lists.last-snoc x front w)
+
+after-head : (n : ℕ) (h : Head) (xs : List ℕ) → start h < n → (k : ℕ) × (k < n) × (after n h xs ≡ At k)
+unfolding after start
+after-head n h (g ∷ gs) l = ((last g gs + 1) % n, mod-lt (last g gs + 1) (omega arith), refl)
+after-head n (At k) [] l = (k, l, refl)
+after-head n None [] l = (n - 1, omega arith, refl)
+
+-- counting along the order counts every station once
+pub order-count : (n : ℕ) (h : Head) (p : ℕ → Bool) → start h ≤ n → count p (order n h) ≡ count p (range 0 n)
+unfolding order
+order-count n h p l = from-count n (start h) p l
+
+-- every station stands in the order, once
+pub order-once : (n : ℕ) (h : Head) (w : ℕ) → start h ≤ n → w < n → count (eqb w) (order n h) ≡ 1
+order-once n h w l k = order-count n h (eqb w) l ∙ Lists.range-once w 0 n (omega arith) (omega arith)
+
+pub order-member : (n : ℕ) (h : Head) (w : ℕ) → start h ≤ n → w < n → member w (order n h) ≡ true
+order-member n h w l k = Lists.counted-member w (order n h) (omega (arith, order-once n h w l k))
+
+-- and nobody else does
+pub order-length : (n : ℕ) (h : Head) → start h ≤ n → length (order n h) ≡ n
+order-length n h l =
+    sym (Lists.count-all (order n h))
+    ∙ order-count n h (λ _. true) l
+    ∙ Lists.count-all (range 0 n)
+    ∙ Lists.length-range 0 n
+
+-- the order that starts at the first station's successor is the order turned by one
+pub order-turned : (n : ℕ) (h : Head) → start h < n
+    → (rest : List ℕ) × (order n h ≡ start h ∷ rest) × (order n (At ((start h + 1) % n)) ≡ rest ++ (start h ∷ []))
+unfolding order start
+order-turned n h l = from-turned n (start h) l
+
+-- the order that starts at w's successor is the order turned until w is last
+pub order-rotated : (n : ℕ) (h : Head) (front : List ℕ) (w : ℕ) (back : List ℕ) → start h < n → order n h ≡ front ++ w ∷ back
+    → order n (At ((w + 1) % n)) ≡ back ++ (front ++ (w ∷ []))
+order-rotated n h [] w back l e =
+    let t = order-turned n h l in
+    let f : w ≡ start h = cc (e, t .1) in
+    let r : back ≡ t .0 = cc (e, t .1) in
+    rw (f, r) (t .2)
+order-rotated n h (x ∷ front) w back l e =
+    let t = order-turned n h l in
+    let f : start h ≡ x = cc (e, t .1) in
+    let r : t .0 ≡ front ++ w ∷ back = cc (e, t .1) in
+    let there : order n (At ((start h + 1) % n)) ≡ front ++ w ∷ (back ++ (x ∷ [])) = t .2 ∙ rw (r, f) (append-assoc front (w ∷ back) (x ∷ [])) in
+    order-rotated n (At ((start h + 1) % n)) front w (back ++ (x ∷ [])) (rw start-at (mod-lt (start h + 1) (omega arith))) there
+    ∙ append-assoc back (x ∷ []) (front ++ (w ∷ []))
+
+-- nobody stands before the first station
+pub before-first : (n : ℕ) (h : Head) → start h < n → before (start h) (order n h) ≡ []
+before-first n h l = rw (order-turned n h l .1, eq-eqb (start h) (start h) refl)
+
+-- before w's successor stand those before w, and w; unless the successor is the first station
+pub before-next : (n : ℕ) (h : Head) (w : ℕ) → start h < n → w < n → (w + 1) % n ≢ start h
+    → before ((w + 1) % n) (order n h) ≡ before w (order n h) ++ (w ∷ [])
+unfolding order
+before-next n h w k l d = from-before-next n (start h) w k l d
+
+-- where w's successor is the first station, w is the last
+pub before-last : (n : ℕ) (h : Head) (w : ℕ) → w < n → (w + 1) % n ≡ start h → order n h ≡ before w (order n h) ++ (w ∷ [])
+unfolding order
+before-last n h w l e = from-end n (start h) w l e
+
+-- a station is granted exactly if it asks and fewer than m that stand before it ask
+pub granted-member : (n m : ℕ) (h : Head) (asks : ℕ → Bool) (w : ℕ) → start h ≤ n → w < n
+    → member w (granted n m h asks) ≡ (asks w && ltb (count asks (before w (order n h))) m)
+unfolding granted
+granted-member n m h asks w l k = Lists.member-first asks w (order n h) m (order-member n h w l k)
+
+-- m are granted, or all that ask if those are fewer
+pub granted-length : (n m : ℕ) (h : Head) (asks : ℕ → Bool) → length (granted n m h asks) ≡ min m (count asks (order n h))
+unfolding granted
+granted-length n m h asks = length-take m (filter asks (order n h)) ∙ ap (min m) (Lists.length-filter asks (order n h))
+
+-- an asking station that makes up the number of the granted is the last of them: the others are those that ask before it
+pub granted-upto : (n m : ℕ) (h : Head) (asks : ℕ → Bool) (w : ℕ) → start h ≤ n → w < n → asks w ≡ true
+    → suc (count asks (before w (order n h))) ≡ length (granted n m h asks)
+    → granted n m h asks ≡ filter asks (before w (order n h)) ++ (w ∷ [])
+unfolding granted
+granted-upto n m h asks w l k t e =
+    let r = Lists.before-split w (order n h) (order-member n h w l k) in
+    Lists.first-upto asks m (order n h) (before w (order n h)) w (r .0) (r .1) t e
+
+-- with one pick the first that asks is granted
+pub granted-one : (n : ℕ) (h : Head) (asks : ℕ → Bool) (w : ℕ) → start h ≤ n → w < n → asks w ≡ true
+    → count asks (before w (order n h)) ≡ 0 → granted n 1 h asks ≡ w ∷ []
+granted-one n h asks w l k t e =
+    let r = Lists.before-split w (order n h) (order-member n h w l k) in
+    let one : suc (count asks (before w (order n h))) ≡ length (granted n 1 h asks) =
+    omega (arith, granted-length n 1 h asks, ap (count asks) (r .1), Lists.count-append asks (before w (order n h)) (w ∷ r .0), ap bit t) in
+    let none : filter asks (before w (order n h)) ≡ [] = Lists.empty _ (Lists.length-filter asks (before w (order n h)) ∙ e) in
+    granted-upto n 1 h asks w l k t one ∙ rw none
+
+-- the grant buffer has a byte for each station
+pub grants-length : (n m : ℕ) (h : Head) (asks : ℕ → Bool) → length (grants n m h asks) ≡ n
+unfolding grants
+grants-length n m h asks = length-map (range 0 n) (λ w. bit (member w (granted n m h asks))) ∙ Lists.length-range 0 n
+
+-- and it is 1 for those that are granted, and 0 for the others
+pub grants-member : (n m : ℕ) (h : Head) (asks : ℕ → Bool) (w : ℕ) → w < n
+    → getD (grants n m h asks) w 0 ≡ bit (member w (granted n m h asks))
+unfolding grants
+grants-member n m h asks w k =
+    Lists.getD-table (λ v. bit (member v (granted n m h asks))) 0 n w k ∙ rw zero-add
+
+-- the next head is one past the one granted last, modulo n
+pub next-last : (n m : ℕ) (h : Head) (asks : ℕ → Bool) (front : List ℕ) (w : ℕ) → granted n m h asks ≡ front ++ (w ∷ [])
+    → next n m h asks ≡ At ((w + 1) % n)
+unfolding next
+next-last n m h asks front w e = ap (after n h) e ∙ after-last n h front w
+
+-- with none granted a head stays
+pub next-stays : (n m k : ℕ) (asks : ℕ → Bool) → granted n m (At k) asks ≡ [] → next n m (At k) asks ≡ At k
+unfolding next after
+next-stays n m k asks e = rw e
+
+-- and no head becomes n - 1
+pub next-none : (n m : ℕ) (asks : ℕ → Bool) → granted n m None asks ≡ [] → next n m None asks ≡ At (n - 1)
+unfolding next after
+next-none n m asks e = rw e
+
+-- a cycle that grants cuts the order at the one granted last: those before it that ask are granted too, and the next order
+-- starts behind it
+pub record Cut (n m : ℕ) (h : Head) (asks : ℕ → Bool) : Type 0 where
+  pub front : List ℕ
+  pub final : ℕ
+  pub back : List ℕ
+  pub order-is : order n h ≡ front ++ final ∷ back
+  pub granted-is : granted n m h asks ≡ filter asks front ++ (final ∷ [])
+  pub next-is : next n m h asks ≡ At ((final + 1) % n)
+  pub order-next : order n (next n m h asks) ≡ back ++ (front ++ (final ∷ []))
+
+pub cut : (n m : ℕ) (h : Head) (asks : ℕ → Bool) → start h < n → 0 < length (granted n m h asks) → Cut n m h asks
+unfolding granted
+cut n m h asks l some =
+    let size = granted-length n m h asks in
+    let r = Lists.passing asks (order n h) (length (granted n m h asks) - 1) (omega arith) in
+    let is : granted n m h asks ≡ filter asks (r .front) ++ (r .here ∷ []) =
+    Lists.first-upto asks m (order n h) (r .front) (r .here) (r .back) (r .is) (r .passes) (omega (arith, r .earlier)) in
+    let to : next n m h asks ≡ At ((r .here + 1) % n) = next-last n m h asks (filter asks (r .front)) (r .here) is in
+    record {
+      front = r .front;
+      final = r .here;
+      back = r .back;
+      order-is = r .is;
+      granted-is = is;
+      next-is = to;
+      order-next = ap (order n) to ∙ order-rotated n h (r .front) (r .here) (r .back) l (r .is);
+    }
+
+-- no cycle ends without a head, and the head is a station
+pub next-head : (n m : ℕ) (h : Head) (asks : ℕ → Bool) → start h < n → (k : ℕ) × (k < n) × (next n m h asks ≡ At k)
+unfolding next
+next-head n m h asks l = after-head n h (granted n m h asks) l

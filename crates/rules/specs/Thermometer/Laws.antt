@@ -1,0 +1,63 @@
+-- Laws of the thermometer arbiter's rule.
+-- Assumes nothing.
+use Prim.Native.Nat.{ℕ, zero, suc, _+_, _≤_, _<_, min}
+use mathlib.Core.Path.{_≡_, refl, sym, ap, _∙_}
+use mathlib.Core.Bool.{Bool, true, false, _&&_}
+use mathlib.Core.List.{List, [], _∷_, map}
+use native.Mathlib.Omega.{arith}
+use native.Mathlib.Nat.{zero-add}
+use lib.Count.{ones, ones-ones}
+use lib.Dec.{ltb, eqb}
+use lib.ListN.{length, getD, length-map}
+use lib.Seq.{ext-getD}
+use borrow.Author.Tests.{ltb-true, ltb-false, lt-ltb, le-ltb, eqb-true}
+use Rattle.rules.specs.declared.Head.{Head}
+use Rattle.rules.specs.Lists.{bit, range, count, member, before}
+use Rattle.rules.specs.Lists.Laws as Lists
+use Rattle.rules.specs.RoundRobin.{start, order}
+use Rattle.rules.specs.RoundRobin as RoundRobin
+use Rattle.rules.specs.RoundRobin.Laws as Laws
+use Rattle.rules.specs.Thermometer.{code, isCode, add, saturated, grants}
+
+-- a code's ones are its count
+pub ones-code : (c : ℕ) → ones (code c) ≡ c
+unfolding code
+ones-code c = ones-ones c
+
+-- the adder adds counts, up to m
+pub add-codes : (m a b : ℕ) → add m (code a) (code b) ≡ code (min m (a + b))
+unfolding add
+add-codes m a b = rw (ones-code a, ones-code b)
+
+-- the codes for m are those of the counts from 0 to m
+pub is-code : (m c : ℕ) → c ≤ m → isCode m (code c) ≡ true
+unfolding isCode
+is-code m c l = rw zero-add at (Lists.member-table code 0 (suc m) c (omega arith))
+
+pub code-is : (m byte : ℕ) → isCode m byte ≡ true → (c : ℕ) × (c ≤ m) × (byte ≡ code c)
+unfolding isCode
+code-is m byte t =
+    let r = Lists.table-member code byte 0 (suc m) t in
+    (r .0, omega (arith, r .1), rw zero-add at (r .2))
+
+-- cut off at m, a count is below m exactly if it is so uncut
+below : (m c : ℕ) → ltb (min m c) m ≡ ltb c m
+below m c =
+    Lists.split (ltb c m)
+    (λ t. rw t (lt-ltb (min m c) m (omega (arith, ltb-true c m t))))
+    (λ t. rw t (le-ltb (min m c) m (omega (arith, ltb-false c m t))))
+
+-- the saturated counts grant those whom the round-robin rule grants
+pub grants-round-robin : (n m : ℕ) (h : Head) (asks : ℕ → Bool) → start h ≤ n → grants n m h asks ≡ RoundRobin.grants n m h asks
+unfolding grants saturated
+grants-round-robin n m h asks l =
+    ext-getD 0 (grants n m h asks) (RoundRobin.grants n m h asks) (size ∙ sym (Laws.grants-length n m h asks)) (λ w k. at w (rw size at k))
+  where
+    size : length (grants n m h asks) ≡ n
+    size = length-map (range 0 n) (λ w. bit (asks w && ltb (saturated n m h asks w) m)) ∙ Lists.length-range 0 n
+
+    at : (w : ℕ) → w < n → getD (grants n m h asks) w 0 ≡ getD (RoundRobin.grants n m h asks) w 0
+    at w k =
+        Lists.getD-table (λ v. bit (asks v && ltb (saturated n m h asks v) m)) 0 n w k
+        ∙ rw (zero-add, Laws.grants-member n m h asks w k, Laws.granted-member n m h asks w l k)
+        (ap (λ (b : Bool). bit (asks w && b)) (below m (count asks (before w (order n h)))))
