@@ -5,6 +5,7 @@ use mathlib.Core.Bool.{Bool, true, false}
 use mathlib.Core.List.{List, [], _∷_}
 use Rattle.rules.specs.declared.Head.the-variants.{At}
 use Rattle.rules.specs.RoundRobin as RoundRobin
+pub mod Laws
 
 -- who is granted: "worked out anew in each cycle by the turn order from the token, with one pick"
 unfoldable pub granted : ℕ → ℕ → (ℕ → Bool) → List ℕ

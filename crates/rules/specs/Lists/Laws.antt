@@ -28,6 +28,10 @@ and-false : (b : Bool) → (b && false) ≡ false
 and-false true = refl
 and-false false = refl
 
+and-true : (b : Bool) → (b && true) ≡ b
+and-true true = refl
+and-true false = refl
+
 or-true : (b : Bool) → (b || true) ≡ true
 or-true true = refl
 or-true false = refl
@@ -98,6 +102,10 @@ member-filter p w (x ∷ xs) =
     (split (p x) (λ t. rw (t, eq-eqb x x refl)) (λ t. rw (t, eq-eqb x x refl, member-filter p x xs) (rw t (and-false (member x xs))))))
     (λ e. split (p x) (λ t. rw (t, e) (member-filter p w xs)) (λ t. rw (t, e) (member-filter p w xs)))
 
+-- a filter keeps whoever passes
+pub filter-keeps : (p : ℕ → Bool) (w : ℕ) (xs : List ℕ) → p w ≡ true → member w (filter p xs) ≡ member w xs
+filter-keeps p w xs t = member-filter p w xs ∙ rw t (and-true (member w xs))
+
 -- those before w in two lists, one after the other: w is in the first, or it is not
 pub before-left : (w : ℕ) (xs ys : List ℕ) → member w xs ≡ true → before w (xs ++ ys) ≡ before w xs
 before-left w [] ys h = absurd (true≢false (sym h))
@@ -117,6 +125,17 @@ before-split w (x ∷ xs) h =
     split (eqb w x)
     (λ e. (xs, rw e (ap {B = List ℕ} (λ (i : ℕ). i ∷ xs) (sym (eqb-true w x e)))))
     (λ e. let r = before-split w xs (rw e at h) in (r .0, rw e (ap {B = List ℕ} (λ l. x ∷ l) (r .1))))
+
+-- no more pass before w than in the whole list
+pub count-before-le : (p : ℕ → Bool) (w : ℕ) (xs : List ℕ) → count p (before w xs) ≤ count p xs
+count-before-le p w [] = omega arith
+count-before-le p w (x ∷ xs) = split (eqb w x) (λ e. rw e (omega arith)) (λ e. rw e (omega (arith, count-before-le p w xs)))
+
+-- fewer pass before w than in the whole list, if w is there and passes
+pub count-before : (p : ℕ → Bool) (w : ℕ) (xs : List ℕ) → member w xs ≡ true → p w ≡ true → count p (before w xs) < count p xs
+count-before p w xs h t =
+    let r = before-split w xs h in
+    omega (arith, ap (count p) (r .1), count-append p (before w xs) (w ∷ r .0), ap bit t)
 
 -- whoever is not in a list is not in its beginning
 pub not-in-take : (w m : ℕ) (xs : List ℕ) → member w xs ≡ false → member w (take m xs) ≡ false

@@ -136,6 +136,9 @@ pub order-member : (n : ℕ) (h : Head) (w : ℕ) → start h ≤ n → w < n �
 order-member n h w l k = Lists.counted-member w (order n h) (omega (arith, order-once n h w l k))
 
 -- and nobody else does
+pub order-outside : (n : ℕ) (h : Head) (w : ℕ) → start h ≤ n → n ≤ w → count (eqb w) (order n h) ≡ 0
+order-outside n h w l k = order-count n h (eqb w) l ∙ Lists.uncounted w (range 0 n) (Lists.above-range w 0 n (omega arith))
+
 pub order-length : (n : ℕ) (h : Head) → start h ≤ n → length (order n h) ≡ n
 order-length n h l =
     sym (Lists.count-all (order n h))
@@ -180,6 +183,22 @@ pub before-last : (n : ℕ) (h : Head) (w : ℕ) → w < n → (w + 1) % n ≡ s
 unfolding order
 before-last n h w l e = from-end n (start h) w l e
 
+-- fewer ask before an asking station than in all
+pub before-count : (n : ℕ) (h : Head) (p : ℕ → Bool) (w : ℕ) → start h ≤ n → w < n → p w ≡ true
+    → count p (before w (order n h)) < count p (order n h)
+before-count n h p w l k t = Lists.count-before p w (order n h) (order-member n h w l k) t
+
+-- the stations before w are fewer than n
+pub before-length : (n : ℕ) (h : Head) (w : ℕ) → start h ≤ n → w < n → length (before w (order n h)) < n
+before-length n h w l k =
+    omega (
+      arith,
+      before-count n h (λ _. true) w l k refl,
+      Lists.count-all (before w (order n h)),
+      Lists.count-all (order n h),
+      order-length n h l,
+    )
+
 -- a station is granted exactly if it asks and fewer than m that stand before it ask
 pub granted-member : (n m : ℕ) (h : Head) (asks : ℕ → Bool) (w : ℕ) → start h ≤ n → w < n
     → member w (granted n m h asks) ≡ (asks w && ltb (count asks (before w (order n h))) m)
@@ -204,9 +223,8 @@ granted-upto n m h asks w l k t e =
 pub granted-one : (n : ℕ) (h : Head) (asks : ℕ → Bool) (w : ℕ) → start h ≤ n → w < n → asks w ≡ true
     → count asks (before w (order n h)) ≡ 0 → granted n 1 h asks ≡ w ∷ []
 granted-one n h asks w l k t e =
-    let r = Lists.before-split w (order n h) (order-member n h w l k) in
     let one : suc (count asks (before w (order n h))) ≡ length (granted n 1 h asks) =
-    omega (arith, granted-length n 1 h asks, ap (count asks) (r .1), Lists.count-append asks (before w (order n h)) (w ∷ r .0), ap bit t) in
+    omega (arith, granted-length n 1 h asks, before-count n h asks w l k t) in
     let none : filter asks (before w (order n h)) ≡ [] = Lists.empty _ (Lists.length-filter asks (before w (order n h)) ∙ e) in
     granted-upto n 1 h asks w l k t one ∙ rw none
 

@@ -1,0 +1,42 @@
+-- Laws of the token bus's rule.
+-- Assumes nothing.
+use Prim.Native.Nat.{ℕ, _+_, _%_, _<_}
+use mathlib.Core.Path.{_≡_, refl}
+use mathlib.Core.Bool.{Bool, true, false}
+use mathlib.Core.List.{List, [], _∷_}
+use native.Mathlib.Omega.{arith}
+use native.Mathlib.Nat.{mod-lt}
+use lib.ListN.{length}
+use Rattle.rules.specs.Bus.{granted, after, next}
+
+-- without an acknowledge the token stays
+pub next-unacknowledged : (n t : ℕ) (asks : ℕ → Bool) → next n t false asks ≡ t
+unfolding next after
+next-unacknowledged n t asks = refl
+
+-- without a grant it stays too
+pub next-idle : (n t : ℕ) (acknowledged : Bool) (asks : ℕ → Bool) → granted n t asks ≡ [] → next n t acknowledged asks ≡ t
+unfolding next after
+next-idle n t true asks e = rw e
+next-idle n t false asks e = refl
+
+after-grant : (n t : ℕ) (xs : List ℕ) → 0 < length xs → after n t true xs ≡ (t + 1) % n
+unfolding after
+after-grant n t [] h = absurd (omega arith)
+after-grant n t (g ∷ gs) h = refl
+
+-- an acknowledged grant moves it one on
+pub next-acknowledged : (n t : ℕ) (asks : ℕ → Bool) → 0 < length (granted n t asks) → next n t true asks ≡ (t + 1) % n
+unfolding next
+next-acknowledged n t asks h = after-grant n t (granted n t asks) h
+
+after-below : (n t : ℕ) (acknowledged : Bool) (xs : List ℕ) → t < n → after n t acknowledged xs < n
+unfolding after
+after-below n t true (g ∷ gs) h = mod-lt (t + 1) (omega arith)
+after-below n t true [] h = h
+after-below n t false xs h = h
+
+-- the next token is a station
+pub next-below : (n t : ℕ) (acknowledged : Bool) (asks : ℕ → Bool) → t < n → next n t acknowledged asks < n
+unfolding next
+next-below n t acknowledged asks h = after-below n t acknowledged (granted n t asks) h
