@@ -1,13 +1,13 @@
 -- The wait rule of the rules, from their laws alone.
 -- Assumes nothing.
-use Prim.Native.Nat.{ℕ, zero, suc, _+_, _-_, _*_, _/_, _%_, _≤_, _<_}
+use Prim.Native.Nat.{ℕ, suc, _+_, _*_, _%_, _≤_, _<_}
 use mathlib.Core.Path.{_≡_, refl, sym, ap, _∙_}
 use mathlib.Core.Bool.{Bool, true, false, _&&_, _||_, true≢false}
-use mathlib.Core.List.{List, [], _∷_, _++_, append-assoc}
+use mathlib.Core.List.{List, [], _∷_, _++_}
 use native.Mathlib.Omega.{arith}
 use native.Mathlib.Nat.{mod-lt, le-div-iff-mul-le}
 use lib.Dec.{ltb, eqb}
-use lib.ListN.{length, getD, List·getD-eq-default}
+use lib.ListN.{length, List·getD-eq-default}
 use borrow.Author.Tests.{ltb-true, ltb-false, eqb-true}
 use Rattle.rules.specs.declared.Head.{Head}
 use Rattle.rules.specs.declared.Head.the-variants.{At}
@@ -144,29 +144,32 @@ pub bounded-waiting : BoundedWaiting
 bounded-waiting n m h w past waiting rest some head station run asking none =
     let r = resumed (λ g c. c .buffer ≡ grants n m g (c .asks)) (λ g c. next n m g (c .asks)) (λ g. start g < n)
     (λ g c. start-next n m g (c .asks)) past (waiting ++ rest) h head run in
-    let k = r .0 in
-    record {
-      short = below-ceiling n m (length waiting) some
-          (omega (
-            arith,
-            sum-const m waiting,
-            waited n m w some station (λ _. true) (λ _. m)
-                (λ g c hd e t out. omega (arith, full n m g (c .asks) w some hd station t out, Lists.count-all (granted n m g (c .asks))))
-                waiting rest k (r .1) (r .2) asking none,
-            Lists.count-all (before w (order n k)),
-            Laws.before-length n k w (omega (arith, r .1)) station,
-          ));
-      once = λ v.
-          omega (
-            arith,
-            sum-count (grantsTo v) waiting,
-            waited n m w some station (eqb v) (λ c. bit (grantsTo v c))
-                (λ g c hd e t out. granted-to n m g c v e)
-                waiting rest k (r .1) (r .2) asking none,
-            Lists.count-before-le (eqb v) w (order n k),
-            at-most-once n k v (r .1),
-          );
-    }
+    bounded (r .0) (r .1) (r .2)
+  where
+    bounded : (k : Head) → start k < n → Cycles n m k (waiting ++ rest) → Bounded n m waiting
+    bounded k station-head follow =
+        let others : length waiting * m < n =
+        omega (
+          arith,
+          sum-const m waiting,
+          waited n m w some station (λ _. true) (λ _. m)
+              (λ g c hd e t out. omega (arith, full n m g (c .asks) w some hd station t out, Lists.count-all (granted n m g (c .asks))))
+              waiting rest k station-head follow asking none,
+          Lists.count-all (before w (order n k)),
+          Laws.before-length n k w (omega arith) station,
+        ) in
+        record {
+          short = omega (arith, below-ceiling n m (length waiting) some others);
+          once = λ v.
+              omega (
+                arith,
+                sum-count (grantsTo v) waiting,
+                waited n m w some station (eqb v) (λ c. bit (grantsTo v c)) (λ g c hd e t out. granted-to n m g c v e)
+                    waiting rest k station-head follow asking none,
+                Lists.count-before-le (eqb v) w (order n k),
+                at-most-once n k v station-head,
+              );
+        }
 
 -- the token is a head of the order
 token-head : (n t : ℕ) → t < n → start (At t) < n

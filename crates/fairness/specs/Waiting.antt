@@ -1,5 +1,5 @@
--- 01, "The wait rule", of the rules themselves: over every list of cycles, from any head or none and any token, whoever asks and
--- whatever is acknowledged.
+-- 01, "The wait rule", of the rules themselves: over every list of cycles, from any head or none and any token, whoever asks
+-- and whatever is acknowledged. n is the width, 01's N; m is the pick count.
 -- Assumes nothing.
 use Prim.Native.Nat.{ℕ, _+_, _-_, _/_, _≤_, _<_}
 use mathlib.Core.Path.{_≡_}
@@ -17,11 +17,11 @@ pub record Cycle : Type 0 where
   pub asks : ℕ → Bool
   pub buffer : List ℕ
 
--- a station is granted "if the grant buffer afterwards holds 1 for it"
+-- the cycle grants station w: the buffer "holds 1 for it"
 abbrev pub grantsTo : ℕ → Cycle → Bool
 grantsTo w c = eqb (getD (c .buffer) w 0) 1
 
--- "in all of which"
+-- all cycles of the list pass the test
 abbrev pub Each : {A : Type 0} → (A → Bool) → List A → Type 0
 Each p [] = Unit {0}
 Each p (c ∷ cs) = (p c ≡ true) × Each p cs
@@ -35,17 +35,17 @@ Follows right next s (c ∷ cs) = right s c × Follows right next (next s c) cs
 abbrev pub Cycles : ℕ → ℕ → Head → List Cycle → Type 0
 Cycles n m = Follows (λ h c. c .buffer ≡ grants n m h (c .asks)) (λ h c. next n m h (c .asks))
 
--- "N/m rounded up"
+-- 01's "N/m rounded up"
 abbrev pub ceiling : ℕ → ℕ → ℕ
 ceiling n m = (n + (m - 1)) / m
 
--- what a station's wait comes to: the cycles "are fewer than N/m rounded up, and no other station is granted twice in them"
+-- what is promised of a station's wait: it is shorter than n / m rounded up, and nobody is granted twice in it
 pub record Bounded (n m : ℕ) (waiting : List Cycle) : Type 0 where
   pub short : length waiting < ceiling n m
   pub once : (v : ℕ) → count (grantsTo v) waiting ≤ 1
 
--- Scan, tree, thermometer arbiter: "Take any served cycles that follow one another, in all of which a station asks and in none of
--- which it is granted."
+-- The round-robin rule (01: scan, tree and thermometer arbiter). In whatever came before, `past`, and comes after, `rest`: take
+-- cycles in all of which station w asks and in none of which it is granted. The head h is none or a station: start h < n.
 abbrev pub BoundedWaiting : Type 0
 BoundedWaiting =
     (n m : ℕ) (h : Head) (w : ℕ) (past waiting rest : List Cycle)
@@ -69,8 +69,8 @@ BusCycles n =
     (λ t c. c .cycle .buffer ≡ Bus.grants n t (c .cycle .asks))
     (λ t c. Bus.next n t (c .acknowledged) (c .cycle .asks))
 
--- Bus: "Take any served cycles that follow one another, in all of which a station asks, unacknowledged ones too, and exactly N of
--- which are acknowledged. One of these N grants it."
+-- The bus. In whatever came before and comes after: take cycles in all of which station w asks, acknowledged or not, and of
+-- which exactly n are acknowledged. One of these n grants it.
 abbrev pub BusBoundedWaiting : Type 0
 BusBoundedWaiting =
     (n t w : ℕ) (past asking rest : List BusCycle)

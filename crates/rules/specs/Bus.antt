@@ -7,7 +7,7 @@ use Rattle.rules.specs.declared.Head.the-variants.{At}
 use Rattle.rules.specs.RoundRobin as RoundRobin
 pub mod Laws
 
--- who is granted: "worked out anew in each cycle by the turn order from the token, with one pick"
+-- who is granted: the first that asks in turn order "from the token, with one pick"
 unfoldable pub granted : ℕ → ℕ → (ℕ → Bool) → List ℕ
 granted n t asks = RoundRobin.granted n 1 (At t) asks
 
@@ -15,8 +15,8 @@ granted n t asks = RoundRobin.granted n 1 (At t) asks
 unfoldable pub grants : ℕ → ℕ → (ℕ → Bool) → List ℕ
 grants n t asks = RoundRobin.grants n 1 (At t) asks
 
--- the token after a cycle with this acknowledge and these granted: "if there is a grant and acknowledge is 1, the token
--- moves to the station after the token, modulo N, whoever was granted. Otherwise it stays"
+-- the token once these are granted: an acknowledged grant moves it one on from where it was, "whoever was granted"; otherwise
+-- it stays
 unfoldable pub after : ℕ → ℕ → Bool → List ℕ → ℕ
 after n t true (g ∷ gs) = (t + 1) % n
 after n t true [] = t

@@ -1,15 +1,14 @@
 -- Laws of the words of Lists.
 -- Assumes nothing.
-use Prim.Native.Nat.{ℕ, zero, suc, _+_, _-_, _≤_, _<_, min}
+use Prim.Native.Nat.{ℕ, zero, suc, _+_, _-_, _≤_, _<_}
 use mathlib.Core.Path.{_≡_, refl, sym, ap, _∙_}
-use mathlib.Core.Bool.{Bool, true, false, cond, not, _&&_, _||_, true≢false}
-use mathlib.Core.Logic.{_⊎_, inl, inr, ⊎-elim, _≢_}
+use mathlib.Core.Bool.{Bool, true, false, _&&_, _||_, true≢false}
 use native.Mathlib.Nat.{zero-add, add-zero, suc-add, add-suc}
 use native.Mathlib.Numerals.{add-one, one-add}
-use mathlib.Core.List.{List, [], _∷_, _++_, map, append-assoc, append-nil}
+use mathlib.Core.List.{List, [], _∷_, _++_, map}
 use native.Mathlib.Omega.{arith}
-use lib.Dec.{ltb, leb, eqb, leb·suc-suc}
-use lib.ListN.{length, take, getD}
+use lib.Dec.{ltb, eqb, leb·suc-suc}
+use lib.ListN.{length, take, getD, length-map}
 use lib.Seq.{take-append-add}
 use borrow.Author.Tests.{eqb-true, eqb-false, eq-eqb, ne-eqb, lt-ltb, le-ltb}
 use Rattle.rules.specs.Lists.{bit, range, filter, count, member, before, last}
@@ -19,11 +18,6 @@ pub split : {P : Type 0} (b : Bool) → (b ≡ true → P) → (b ≡ false → 
 split true f g = f refl
 split false f g = g refl
 
--- a test is 1 at most
-pub bit-le : (b : Bool) → bit b ≤ 1
-bit-le true = omega arith
-bit-le false = omega arith
-
 and-false : (b : Bool) → (b && false) ≡ false
 and-false true = refl
 and-false false = refl
@@ -32,27 +26,17 @@ and-true : (b : Bool) → (b && true) ≡ b
 and-true true = refl
 and-true false = refl
 
-or-true : (b : Bool) → (b || true) ≡ true
-or-true true = refl
-or-true false = refl
-
-pub ne-of : (a b : ℕ) → eqb a b ≡ false → a ≢ b
-ne-of a b e q = eqb-false a b e q
-
 -- counting along two lists, one after the other
 pub count-append : {A : Type 0} (p : A → Bool) (xs ys : List A) → count p (xs ++ ys) ≡ count p xs + count p ys
 count-append p [] ys = omega arith
 count-append p (x ∷ xs) ys = omega (arith, count-append p xs ys)
 
--- everybody passes the test that everybody passes
+-- a test that everybody passes counts them all
 pub count-all : {A : Type 0} (xs : List A) → count (λ _. true) xs ≡ length xs
 count-all [] = refl
 count-all (x ∷ xs) = omega (arith, count-all xs)
 
-pub count-le : {A : Type 0} (p : A → Bool) (xs : List A) → count p xs ≤ length xs
-count-le p [] = omega arith
-count-le p (x ∷ xs) = omega (arith, count-le p xs, bit-le (p x))
-
+-- filtering two lists, one after the other
 pub filter-append : {A : Type 0} (p : A → Bool) (xs ys : List A) → filter p (xs ++ ys) ≡ filter p xs ++ filter p ys
 filter-append p [] ys = refl
 filter-append p (x ∷ xs) ys = split (p x) (λ e. rw (e, filter-append p xs ys)) (λ e. rw (e, filter-append p xs ys))
@@ -72,20 +56,22 @@ pub count-filter-le : {A : Type 0} (p q : A → Bool) (xs : List A) → count p 
 count-filter-le p q [] = omega arith
 count-filter-le p q (x ∷ xs) = split (q x) (λ e. rw e (omega (arith, count-filter-le p q xs))) (λ e. rw e (omega (arith, count-filter-le p q xs)))
 
+-- being in one of two lists, one after the other
 pub member-append : (w : ℕ) (xs ys : List ℕ) → member w (xs ++ ys) ≡ (member w xs || member w ys)
 member-append w [] ys = refl
 member-append w (x ∷ xs) ys = split (eqb w x) (λ e. rw e) (λ e. rw e (member-append w xs ys))
 
--- nobody is in a list in which nobody is w
+-- whoever is in a list is counted in it
 pub member-count : (w : ℕ) (xs : List ℕ) → bit (member w xs) ≤ count (eqb w) xs
 member-count w [] = omega arith
 member-count w (x ∷ xs) = split (eqb w x) (λ e. rw e (omega arith)) (λ e. rw e (omega (arith, member-count w xs)))
 
--- w is there if it is counted, and is not counted if it is not there
+-- whoever is counted in a list is in it
 pub counted-member : (w : ℕ) (xs : List ℕ) → 0 < count (eqb w) xs → member w xs ≡ true
 counted-member w [] h = absurd (omega arith)
 counted-member w (x ∷ xs) h = split (eqb w x) (λ e. rw e) (λ e. rw e (counted-member w xs (omega (arith, rw e at h))))
 
+-- whoever is not in a list is not counted in it
 pub uncounted : (w : ℕ) (xs : List ℕ) → member w xs ≡ false → count (eqb w) xs ≡ 0
 uncounted w [] h = refl
 uncounted w (x ∷ xs) h =
@@ -93,6 +79,7 @@ uncounted w (x ∷ xs) h =
     (λ e. absurd (true≢false (rw e at h)))
     (λ e. rw e (omega (arith, uncounted w xs (rw e at h))))
 
+-- being left by a filter: being in the list, and passing
 pub member-filter : (p : ℕ → Bool) (w : ℕ) (xs : List ℕ) → member w (filter p xs) ≡ (member w xs && p w)
 member-filter p w [] = refl
 member-filter p w (x ∷ xs) =
@@ -106,11 +93,12 @@ member-filter p w (x ∷ xs) =
 pub filter-keeps : (p : ℕ → Bool) (w : ℕ) (xs : List ℕ) → p w ≡ true → member w (filter p xs) ≡ member w xs
 filter-keeps p w xs t = member-filter p w xs ∙ rw t (and-true (member w xs))
 
--- those before w in two lists, one after the other: w is in the first, or it is not
+-- those before w in two lists, one after the other, where w is in the first
 pub before-left : (w : ℕ) (xs ys : List ℕ) → member w xs ≡ true → before w (xs ++ ys) ≡ before w xs
 before-left w [] ys h = absurd (true≢false (sym h))
 before-left w (x ∷ xs) ys h = split (eqb w x) (λ e. rw e) (λ e. rw e (ap {B = List ℕ} (λ l. x ∷ l) (before-left w xs ys (rw e at h))))
 
+-- and where it is not
 pub before-right : (w : ℕ) (xs ys : List ℕ) → member w xs ≡ false → before w (xs ++ ys) ≡ xs ++ before w ys
 before-right w [] ys h = refl
 before-right w (x ∷ xs) ys h =
@@ -173,8 +161,8 @@ pub record Passing (p : ℕ → Bool) (xs : List ℕ) (j : ℕ) : Type 0 where
   pub passes : p here ≡ true
   pub earlier : count p front ≡ j
 
-behind : (p : ℕ → Bool) (x : ℕ) (xs : List ℕ) (i j : ℕ) → bit (p x) + i ≡ j → Passing p xs i → Passing p (x ∷ xs) j
-behind p x xs i j e r = record {
+skipped : (p : ℕ → Bool) (x : ℕ) (xs : List ℕ) (i j : ℕ) → bit (p x) + i ≡ j → Passing p xs i → Passing p (x ∷ xs) j
+skipped p x xs i j e r = record {
   front = x ∷ r .front;
   here = r .here;
   back = r .back;
@@ -183,16 +171,17 @@ behind p x xs i j e r = record {
   earlier = omega (arith, r .earlier);
 }
 
+-- it is there if more than j pass
 pub passing : (p : ℕ → Bool) (xs : List ℕ) (j : ℕ) → j < count p xs → Passing p xs j
 passing p [] j h = absurd (omega arith)
 passing p (x ∷ xs) zero h =
     split (p x)
     (λ t. record { front = []; here = x; back = xs; is = refl; passes = t; earlier = refl })
-    (λ t. behind p x xs 0 0 (rw t) (passing p xs 0 (omega (arith, rw t at h))))
+    (λ t. skipped p x xs 0 0 (rw t) (passing p xs 0 (omega (arith, rw t at h))))
 passing p (x ∷ xs) (suc j) h =
     split (p x)
-    (λ t. behind p x xs j (suc j) (rw t (one-add j)) (passing p xs j (omega (arith, rw t at h))))
-    (λ t. behind p x xs (suc j) (suc j) (rw t (zero-add (suc j))) (passing p xs (suc j) (omega (arith, rw t at h))))
+    (λ t. skipped p x xs j (suc j) (rw t (one-add j)) (passing p xs j (omega (arith, rw t at h))))
+    (λ t. skipped p x xs (suc j) (suc j) (rw t (zero-add (suc j))) (passing p xs (suc j) (omega (arith, rw t at h))))
 
 take-own-length : (m : ℕ) (xs : List ℕ) → take m xs ≡ take (length (take m xs)) xs
 take-own-length zero xs = refl
@@ -208,48 +197,54 @@ first-upto p m xs front w back is t e =
     ∙ rw (← e, parts, ← length-filter p front, ← add-one (length (filter p front)))
     (take-append-add (filter p front) (w ∷ filter p back) 1)
 
--- ranges
+-- a range in two parts
 pub range-append : (a j k : ℕ) → range a (j + k) ≡ range a j ++ range (a + j) k
 range-append a zero k = rw (zero-add, add-zero)
 range-append a (suc j) k = rw (suc-add j k, add-suc a j, ← suc-add a j) (ap {B = List ℕ} (λ l. a ∷ l) (range-append (suc a) j k))
 
+-- a range and its last number
 pub range-snoc : (a k : ℕ) → range a (suc k) ≡ range a k ++ ((a + k) ∷ [])
 range-snoc a k = rw (add-one k) at (range-append a k 1)
 
+-- a range has k numbers
 pub length-range : (a k : ℕ) → length (range a k) ≡ k
 length-range a zero = refl
 length-range a (suc k) = ap suc (length-range (suc a) k)
 
--- a range has the numbers from a to a + k - 1
+-- a range from a has the numbers up to a + k
 pub member-range : (w a k : ℕ) → a ≤ w → w < a + k → member w (range a k) ≡ true
 member-range w a zero h l = absurd (omega arith)
 member-range w a (suc k) h l =
-    split (eqb w a) (λ e. rw e) (λ e. rw e (member-range w (suc a) k (omega (arith, ne-of w a e)) (omega arith)))
+    split (eqb w a) (λ e. rw e) (λ e. rw e (member-range w (suc a) k (omega (arith, eqb-false w a e)) (omega arith)))
 
+-- none below a
 pub below-range : (w a k : ℕ) → w < a → member w (range a k) ≡ false
 below-range w a zero h = refl
 below-range w a (suc k) h = rw (ne-eqb w a (λ q. omega arith)) (below-range w (suc a) k (omega arith))
 
+-- none from a + k on
 pub above-range : (w a k : ℕ) → a + k ≤ w → member w (range a k) ≡ false
 above-range w a zero h = refl
 above-range w a (suc k) h = rw (ne-eqb w a (λ q. omega arith)) (above-range w (suc a) k (omega arith))
 
+-- before a number of a range stands the range up to it
 pub before-range : (w a k : ℕ) → a ≤ w → w < a + k → before w (range a k) ≡ range a (w - a)
 before-range w a zero h l = absurd (omega arith)
 before-range w a (suc k) h l =
     split (eqb w a)
     (λ e. let d : w - a ≡ 0 = omega (arith, eqb-true w a e) in rw (e, d))
     (λ e.
-    let lt : suc a ≤ w = omega (arith, ne-of w a e) in
+    let lt : suc a ≤ w = omega (arith, eqb-false w a e) in
     let d : w - a ≡ suc (w - suc a) = omega arith in
     rw (e, d) (ap {B = List ℕ} (λ l. a ∷ l) (before-range w (suc a) k lt (omega arith))))
 
+-- each number stands in a range once
 pub range-once : (w a k : ℕ) → a ≤ w → w < a + k → count (eqb w) (range a k) ≡ 1
 range-once w a zero h l = absurd (omega arith)
 range-once w a (suc k) h l =
     split (eqb w a)
     (λ e. rw e (omega (arith, uncounted w (range (suc a) k) (below-range w (suc a) k (omega (arith, eqb-true w a e))))))
-    (λ e. rw e (omega (arith, range-once w (suc a) k (omega (arith, ne-of w a e)) (omega arith))))
+    (λ e. rw e (omega (arith, range-once w (suc a) k (omega (arith, eqb-false w a e)) (omega arith))))
 
 -- a table over a range holds at each place the entry of its number
 pub getD-table : (f : ℕ → ℕ) (a k i : ℕ) → i < k → getD (map f (range a k)) i 0 ≡ f (a + i)
@@ -257,22 +252,11 @@ getD-table f a zero i l = absurd (omega arith)
 getD-table f a (suc k) zero l = rw add-zero
 getD-table f a (suc k) (suc i) l = rw (add-suc a i, ← suc-add a i) (getD-table f (suc a) k i (omega arith))
 
--- what a table holds is the entry of some number of the range
-pub member-table : (f : ℕ → ℕ) (a k i : ℕ) → i < k → member (f (a + i)) (map f (range a k)) ≡ true
-member-table f a zero i l = absurd (omega arith)
-member-table f a (suc k) zero l = rw (add-zero, eq-eqb (f a) (f a) refl)
-member-table f a (suc k) (suc i) l =
-    rw (add-suc a i, ← suc-add a i, member-table f (suc a) k i (omega arith)) (or-true (eqb (f (suc a + i)) (f a)))
+-- a table has one entry for each number
+pub length-table : (f : ℕ → ℕ) (a k : ℕ) → length (map f (range a k)) ≡ k
+length-table f a k = length-map (range a k) f ∙ length-range a k
 
-pub table-member : (f : ℕ → ℕ) (x a k : ℕ) → member x (map f (range a k)) ≡ true → (i : ℕ) × (i < k) × (x ≡ f (a + i))
-table-member f x a zero t = absurd (true≢false (sym t))
-table-member f x a (suc k) t =
-    split (eqb x (f a))
-    (λ e. (0, omega arith, rw add-zero (eqb-true x (f a) e)))
-    (λ e.
-    let r = table-member f x (suc a) k (rw e at t) in
-    (suc (r .0), omega (arith, r .1), rw (add-suc a (r .0), ← suc-add a (r .0)) (r .2)))
-
+-- the last of a list that ends in w
 pub last-snoc : (x : ℕ) (xs : List ℕ) (w : ℕ) → last x (xs ++ (w ∷ [])) ≡ w
 last-snoc x [] w = refl
 last-snoc x (y ∷ ys) w = last-snoc y ys w

@@ -12,13 +12,14 @@ use Rattle.rules.specs.RoundRobin.{start, order, granted, after, next}
 use Rattle.rules.specs.Tree.{value, s1, s0, headAt, leaf, join, joined, nodes}
 use Rattle.rules.specs.Bus as Bus
 
--- an entry: N, m, the head; who asks; who is granted, in turn order; the next head. On the bus, N, the token and
--- acknowledge; who asks; who is granted; the next token. Of the tree, N, the head; who asks; the node buffer
+-- an entry. A turn: width, pick count, head; who asks; who is granted, in turn order; the next head. The bus: width, token,
+-- acknowledge; who asks; who is granted; the next token. The tree: width, head; who asks; the node buffer
 pub data Entry : Type 0 where
   turn : ℕ → ℕ → Head → List ℕ → List ℕ → ℕ → Entry
   bus : ℕ → ℕ → Bool → List ℕ → List ℕ → ℕ → Entry
   tree : ℕ → Head → List ℕ → List ℕ → Entry
 
+-- the entries in 01's order
 pub starred : List Entry
 starred =
     turn 4 1 (At 2) (0 ∷ 1 ∷ []) (0 ∷ []) 1
@@ -50,7 +51,7 @@ right (bus n t acknowledged asking out to) =
     same (Bus.granted n t (λ w. member w asking)) out && eqb (Bus.next n t acknowledged (λ w. member w asking)) to
 right (tree n h asking out) = same (nodes n h (λ w. member w asking)) out
 
--- all twelve
+-- they give all twelve
 pub known : count right starred ≡ 12
 unfolding starred same right start order granted after next Bus.granted Bus.after Bus.next value s1 s0 headAt leaf join joined nodes
 known = refl

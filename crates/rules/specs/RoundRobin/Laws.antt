@@ -1,17 +1,17 @@
 -- The laws of the round-robin rule. Every engine and every theorem above stands on these and sees nothing of the rule's inside.
 -- `start h < n` says that h is none or a station below n, and that there is a station.
 -- Assumes nothing.
-use Prim.Native.Nat.{ℕ, zero, suc, _+_, _-_, _%_, _≤_, _<_, min}
+use Prim.Native.Nat.{ℕ, suc, _+_, _-_, _%_, _≤_, _<_, min}
 use mathlib.Core.Path.{_≡_, refl, sym, ap, _∙_}
-use mathlib.Core.Bool.{Bool, true, false, _&&_}
-use mathlib.Core.Logic.{_⊎_, inl, inr, ⊎-elim, _≢_}
-use mathlib.Core.List.{List, [], _∷_, _++_, map, append-assoc, append-nil}
+use mathlib.Core.Bool.{Bool, true, _&&_}
+use mathlib.Core.Logic.{_⊎_, inl, inr, ⊎-elim}
+use mathlib.Core.List.{List, [], _∷_, _++_, append-assoc, append-nil}
 use native.Mathlib.Omega.{arith}
 use native.Mathlib.Nat.{mod-eq-of-lt, mod-self, mod-lt, zero-add}
 use native.Mathlib.Numerals.{add-one}
-use lib.Dec.{ltb, leb, eqb}
-use borrow.Author.Tests.{ltb-true, ltb-false, leb-true, leb-false, eq-eqb}
-use lib.ListN.{length, take, getD, length-take, length-map}
+use lib.Dec.{ltb, eqb}
+use borrow.Author.Tests.{ltb-true, ltb-false, eq-eqb}
+use lib.ListN.{length, getD, length-take}
 use Rattle.rules.specs.declared.Head.{Head}
 use Rattle.rules.specs.declared.Head.the-variants.{None, At}
 use Rattle.rules.specs.Lists.{bit, range, filter, count, member, before, last}
@@ -27,6 +27,11 @@ start-none = refl
 pub start-at : (h : ℕ) → start (At h) ≡ h
 unfolding start
 start-at h = refl
+
+-- the order is two runs of stations: from the first to the end, and from 0 up to the first
+pub order-runs : (n : ℕ) (h : Head) → order n h ≡ range (start h) (n - start h) ++ range 0 (start h)
+unfolding order
+order-runs n h = refl
 
 -- the order that starts at s
 abbrev from : ℕ → ℕ → List ℕ
@@ -58,60 +63,6 @@ from-turned n s l = (
       (past n s l),
 )
 
-from-before-high : (n s w : ℕ) → s ≤ w → w < n → before w (from n s) ≡ range s (w - s)
-from-before-high n s w h l =
-    Lists.before-left w (range s (n - s)) (range 0 s) (Lists.member-range w s (n - s) h (omega arith))
-    ∙ Lists.before-range w s (n - s) h (omega arith)
-
-from-before-low : (n s w : ℕ) → w < s → before w (from n s) ≡ range s (n - s) ++ range 0 w
-from-before-low n s w h =
-    Lists.before-right w (range s (n - s)) (range 0 s) (Lists.below-range w s (n - s) h)
-    ∙ (let z : w - 0 ≡ w = omega arith in rw (Lists.before-range w 0 s (omega arith) (omega arith), z))
-
-range-more : (s w : ℕ) → s ≤ w → range s (suc w - s) ≡ range s (w - s) ++ (w ∷ [])
-range-more s w h =
-    let d : suc w - s ≡ suc (w - s) = omega arith in
-    let e : s + (w - s) ≡ w = omega arith in
-    rw d (rw e at (Lists.range-snoc s (w - s)))
-
--- past the last station of the higher run comes station 0
-from-wraps : (n s w : ℕ) → s ≤ w → suc w ≡ n → range s (n - s) ≡ before w (from n s) ++ (w ∷ [])
-from-wraps n s w h e = rw (from-before-high n s w h (omega arith), ← e) (range-more s w h)
-
-from-low-more : (n s w : ℕ) → w < s → range s (n - s) ++ range 0 (suc w) ≡ before w (from n s) ++ (w ∷ [])
-from-low-more n s w h =
-    rw (from-before-low n s w h, append-assoc, Lists.range-snoc 0 w, zero-add)
-
-from-before-next : (n s w : ℕ) → s < n → w < n → (w + 1) % n ≢ s → before ((w + 1) % n) (from n s) ≡ before w (from n s) ++ (w ∷ [])
-from-before-next n s w k l d =
-    ⊎-elim
-    (λ q.
-    rw (q .0)
-    (Lists.split (leb s w)
-    (λ t.
-    let h : s ≤ w = leb-true s w t in
-    rw (from-before-high n s (suc w) (omega arith) (q .1), from-before-high n s w h l) (range-more s w h))
-    (λ t.
-    let other : suc w ≢ s = rw (q .0) at d in
-    let h : suc w < s = omega (arith, leb-false s w t) in
-    rw (from-before-low n s (suc w) h) (from-low-more n s w (omega arith)))))
-    (λ q.
-    let other : 0 ≢ s = rw (q .0) at d in
-    let h : 0 < s = omega arith in
-    rw (q .0, from-before-low n s 0 h, append-nil (range s (n - s))) (from-wraps n s w (omega arith) (q .1)))
-    (past n w l)
-
-from-end : (n s w : ℕ) → w < n → (w + 1) % n ≡ s → from n s ≡ before w (from n s) ++ (w ∷ [])
-from-end n s w l e =
-    ⊎-elim
-    (λ q.
-    let i : s ≡ suc w = sym e ∙ q .0 in
-    rw i (from-low-more n (suc w) w (omega arith)))
-    (λ q.
-    let i : s ≡ 0 = sym e ∙ q .0 in
-    rw (i) (append-nil (range 0 (n - 0)) ∙ from-wraps n 0 w (omega arith) (q .1)))
-    (past n w l)
-
 after-last : (n : ℕ) (h : Head) (front : List ℕ) (w : ℕ) → after n h (front ++ (w ∷ [])) ≡ At ((w + 1) % n)
 unfolding after
 after-last n h [] w = refl
@@ -128,17 +79,19 @@ pub order-count : (n : ℕ) (h : Head) (p : ℕ → Bool) → start h ≤ n → 
 unfolding order
 order-count n h p l = from-count n (start h) p l
 
--- every station stands in the order, once
+-- a station stands in the order once
 pub order-once : (n : ℕ) (h : Head) (w : ℕ) → start h ≤ n → w < n → count (eqb w) (order n h) ≡ 1
 order-once n h w l k = order-count n h (eqb w) l ∙ Lists.range-once w 0 n (omega arith) (omega arith)
 
+-- so it stands there
 pub order-member : (n : ℕ) (h : Head) (w : ℕ) → start h ≤ n → w < n → member w (order n h) ≡ true
 order-member n h w l k = Lists.counted-member w (order n h) (omega (arith, order-once n h w l k))
 
--- and nobody else does
+-- nobody else does
 pub order-outside : (n : ℕ) (h : Head) (w : ℕ) → start h ≤ n → n ≤ w → count (eqb w) (order n h) ≡ 0
 order-outside n h w l k = order-count n h (eqb w) l ∙ Lists.uncounted w (range 0 n) (Lists.above-range w 0 n (omega arith))
 
+-- the order is n stations long
 pub order-length : (n : ℕ) (h : Head) → start h ≤ n → length (order n h) ≡ n
 order-length n h l =
     sym (Lists.count-all (order n h))
@@ -172,16 +125,23 @@ order-rotated n h (x ∷ front) w back l e =
 pub before-first : (n : ℕ) (h : Head) → start h < n → before (start h) (order n h) ≡ []
 before-first n h l = rw (order-turned n h l .1, eq-eqb (start h) (start h) refl)
 
--- before w's successor stand those before w, and w; unless the successor is the first station
-pub before-next : (n : ℕ) (h : Head) (w : ℕ) → start h < n → w < n → (w + 1) % n ≢ start h
-    → before ((w + 1) % n) (order n h) ≡ before w (order n h) ++ (w ∷ [])
-unfolding order
-before-next n h w k l d = from-before-next n (start h) w k l d
+-- before a station at or past the first stand those from the first up to it
+pub before-high : (n : ℕ) (h : Head) (w : ℕ) → start h ≤ w → w < n → before w (order n h) ≡ range (start h) (w - start h)
+before-high n h w l k =
+    let s = start h in
+    ap (before w) (order-runs n h)
+    ∙ Lists.before-left w (range s (n - s)) (range 0 s) (Lists.member-range w s (n - s) l (omega arith))
+    ∙ Lists.before-range w s (n - s) l (omega arith)
 
--- where w's successor is the first station, w is the last
-pub before-last : (n : ℕ) (h : Head) (w : ℕ) → w < n → (w + 1) % n ≡ start h → order n h ≡ before w (order n h) ++ (w ∷ [])
-unfolding order
-before-last n h w l e = from-end n (start h) w l e
+-- before a station below the first stand those from the first to the end, and those from 0 up to it
+pub before-low : (n : ℕ) (h : Head) (w : ℕ) → w < start h
+    → before w (order n h) ≡ range (start h) (n - start h) ++ range 0 w
+before-low n h w l =
+    let s = start h in
+    let all : w - 0 ≡ w = omega arith in
+    ap (before w) (order-runs n h)
+    ∙ Lists.before-right w (range s (n - s)) (range 0 s) (Lists.below-range w s (n - s) l)
+    ∙ rw (Lists.before-range w 0 s (omega arith) (omega arith), all)
 
 -- fewer ask before an asking station than in all
 pub before-count : (n : ℕ) (h : Head) (p : ℕ → Bool) (w : ℕ) → start h ≤ n → w < n → p w ≡ true
@@ -210,6 +170,10 @@ pub granted-length : (n m : ℕ) (h : Head) (asks : ℕ → Bool) → length (gr
 unfolding granted
 granted-length n m h asks = length-take m (filter asks (order n h)) ∙ ap (min m) (Lists.length-filter asks (order n h))
 
+-- nobody is granted if nobody asks
+pub granted-none : (n m : ℕ) (h : Head) (asks : ℕ → Bool) → count asks (order n h) ≡ 0 → granted n m h asks ≡ []
+granted-none n m h asks e = Lists.empty _ (omega (arith, granted-length n m h asks))
+
 -- an asking station that makes up the number of the granted is the last of them: the others are those that ask before it
 pub granted-upto : (n m : ℕ) (h : Head) (asks : ℕ → Bool) (w : ℕ) → start h ≤ n → w < n → asks w ≡ true
     → suc (count asks (before w (order n h))) ≡ length (granted n m h asks)
@@ -231,14 +195,13 @@ granted-one n h asks w l k t e =
 -- the grant buffer has a byte for each station
 pub grants-length : (n m : ℕ) (h : Head) (asks : ℕ → Bool) → length (grants n m h asks) ≡ n
 unfolding grants
-grants-length n m h asks = length-map (range 0 n) (λ w. bit (member w (granted n m h asks))) ∙ Lists.length-range 0 n
+grants-length n m h asks = Lists.length-table _ 0 n
 
 -- and it is 1 for those that are granted, and 0 for the others
 pub grants-member : (n m : ℕ) (h : Head) (asks : ℕ → Bool) (w : ℕ) → w < n
     → getD (grants n m h asks) w 0 ≡ bit (member w (granted n m h asks))
 unfolding grants
-grants-member n m h asks w k =
-    Lists.getD-table (λ v. bit (member v (granted n m h asks))) 0 n w k ∙ rw zero-add
+grants-member n m h asks w k = Lists.getD-table _ 0 n w k ∙ rw zero-add
 
 -- the next head is one past the one granted last, modulo n
 pub next-last : (n m : ℕ) (h : Head) (asks : ℕ → Bool) (front : List ℕ) (w : ℕ) → granted n m h asks ≡ front ++ (w ∷ [])
@@ -267,6 +230,7 @@ pub record Cut (n m : ℕ) (h : Head) (asks : ℕ → Bool) : Type 0 where
   pub next-is : next n m h asks ≡ At ((final + 1) % n)
   pub order-next : order n (next n m h asks) ≡ back ++ (front ++ (final ∷ []))
 
+-- every cycle that grants does so
 pub cut : (n m : ℕ) (h : Head) (asks : ℕ → Bool) → start h < n → 0 < length (granted n m h asks) → Cut n m h asks
 unfolding granted
 cut n m h asks l some =
@@ -282,7 +246,7 @@ cut n m h asks l some =
       order-is = r .is;
       granted-is = is;
       next-is = to;
-      order-next = ap (order n) to ∙ order-rotated n h (r .front) (r .here) (r .back) l (r .is);
+      order-next = rw to (order-rotated n h (r .front) (r .here) (r .back) l (r .is));
     }
 
 -- no cycle ends without a head, and the head is a station

@@ -1,18 +1,17 @@
 -- Laws of the thermometer arbiter's rule.
 -- Assumes nothing.
-use Prim.Native.Nat.{ℕ, zero, suc, _+_, _≤_, _<_, min}
+use Prim.Native.Nat.{ℕ, _+_, _≤_, _<_, min}
 use mathlib.Core.Path.{_≡_, refl, sym, ap, _∙_}
-use mathlib.Core.Bool.{Bool, true, false, _&&_}
-use mathlib.Core.List.{List, [], _∷_, map}
+use mathlib.Core.Bool.{Bool, true, _&&_, true≢false}
 use native.Mathlib.Omega.{arith}
 use native.Mathlib.Nat.{zero-add}
 use lib.Count.{ones, ones-ones}
 use lib.Dec.{ltb, eqb}
-use lib.ListN.{length, getD, length-map}
+use lib.ListN.{length, getD}
 use lib.Seq.{ext-getD}
-use borrow.Author.Tests.{ltb-true, ltb-false, lt-ltb, le-ltb, eqb-true}
+use borrow.Author.Tests.{ltb-true, ltb-false, lt-ltb, le-ltb, leb-true, le-leb, eqb-true, eq-eqb}
 use Rattle.rules.specs.declared.Head.{Head}
-use Rattle.rules.specs.Lists.{bit, range, count, member, before}
+use Rattle.rules.specs.Lists.{bit, count, before}
 use Rattle.rules.specs.Lists.Laws as Lists
 use Rattle.rules.specs.RoundRobin.{start, order}
 use Rattle.rules.specs.RoundRobin as RoundRobin
@@ -29,16 +28,18 @@ pub add-codes : (m a b : ℕ) → add m (code a) (code b) ≡ code (min m (a + b
 unfolding add
 add-codes m a b = rw (ones-code a, ones-code b)
 
--- the codes for m are those of the counts from 0 to m
-pub is-code : (m c : ℕ) → c ≤ m → isCode m (code c) ≡ true
-unfolding isCode
-is-code m c l = rw zero-add at (Lists.member-table code 0 (suc m) c (omega arith))
-
+-- a code for m is the code of a count up to m
 pub code-is : (m byte : ℕ) → isCode m byte ≡ true → (c : ℕ) × (c ≤ m) × (byte ≡ code c)
 unfolding isCode
 code-is m byte t =
-    let r = Lists.table-member code byte 0 (suc m) t in
-    (r .0, omega (arith, r .1), rw zero-add at (r .2))
+    Lists.split (eqb byte (code (ones byte)))
+    (λ e. (ones byte, leb-true (ones byte) m (rw e at t), eqb-true byte (code (ones byte)) e))
+    (λ e. absurd (true≢false (sym (rw e at t))))
+
+-- and every such code is one
+pub is-code : (m c : ℕ) → c ≤ m → isCode m (code c) ≡ true
+unfolding isCode
+is-code m c l = rw (ones-code c, eq-eqb (code c) (code c) refl) (le-leb c m l)
 
 -- cut off at m, a count is below m exactly if it is so uncut
 below : (m c : ℕ) → ltb (min m c) m ≡ ltb c m
@@ -54,10 +55,10 @@ grants-round-robin n m h asks l =
     ext-getD 0 (grants n m h asks) (RoundRobin.grants n m h asks) (size ∙ sym (Laws.grants-length n m h asks)) (λ w k. at w (rw size at k))
   where
     size : length (grants n m h asks) ≡ n
-    size = length-map (range 0 n) (λ w. bit (asks w && ltb (saturated n m h asks w) m)) ∙ Lists.length-range 0 n
+    size = Lists.length-table _ 0 n
 
     at : (w : ℕ) → w < n → getD (grants n m h asks) w 0 ≡ getD (RoundRobin.grants n m h asks) w 0
     at w k =
-        Lists.getD-table (λ v. bit (asks v && ltb (saturated n m h asks v) m)) 0 n w k
+        Lists.getD-table _ 0 n w k
         ∙ rw (zero-add, Laws.grants-member n m h asks w k, Laws.granted-member n m h asks w l k)
         (ap (λ (b : Bool). bit (asks w && b)) (below m (count asks (before w (order n h)))))
