@@ -5,10 +5,10 @@ use mathlib.Core.Path.{_≡_, refl, sym, ap, _∙_}
 use mathlib.Core.Bool.{Bool, true, false, _&&_, _||_, true≢false}
 use mathlib.Core.List.{List, [], _∷_, _++_}
 use native.Mathlib.Omega.{arith}
-use native.Mathlib.Nat.{mod-lt, le-div-iff-mul-le}
+use native.Mathlib.Nat.{mod-lt, le-of-lt, le-div-iff-mul-le}
 use lib.Dec.{ltb, eqb}
-use lib.ListN.{length, List·getD-eq-default}
-use borrow.Author.Tests.{ltb-true, ltb-false, eqb-true}
+use lib.ListN.{length, getD, List·getD-eq-default}
+use borrow.Author.Tests.{ltb-true, ltb-false, eqb-true, eq-eqb}
 use Rattle.rules.specs.declared.Head.{Head}
 use Rattle.rules.specs.declared.Head.the-variants.{At}
 use Rattle.rules.specs.Lists.{bit, filter, count, member, before}
@@ -171,30 +171,11 @@ bounded-waiting n m h w past waiting rest some head station run asking none =
               );
         }
 
--- the token is a head of the order
-token-head : (n t : ℕ) → t < n → start (At t) < n
-token-head n t token = rw (Laws.start-at t) token
-
--- w asks, so the bus grants somebody
-bus-grants : (n t w : ℕ) (asks : ℕ → Bool) → t < n → w < n → asks w ≡ true → 0 < length (Bus.granted n t asks)
-unfolding Bus.granted
-bus-grants n t w asks token station asking =
-    let head = token-head n t token in
-    omega (arith, Laws.granted-length n 1 (At t) asks, Laws.before-count n (At t) asks w (omega arith) station asking)
-
--- the station at the token is granted if it asks
-bus-grants-first : (n t : ℕ) (c : Cycle) → t < n → c .buffer ≡ Bus.grants n t (c .asks) → c .asks t ≡ true → grantsTo t c ≡ true
-unfolding Bus.grants
-bus-grants-first n t c token e asking =
-    let head = token-head n t token in
-    let first : before t (order n (At t)) ≡ [] = rw (Laws.start-at t) at (Laws.before-first n (At t) head) in
-    rw (e, Laws.grants-member n 1 (At t) (c .asks) t token, Laws.granted-member n 1 (At t) (c .asks) t (omega arith) token, asking, first)
-
 -- with the token one on, one station fewer stands before w
 bus-nearer : (n t w : ℕ) → t < n → w < n → eqb w t ≡ false
     → suc (length (before w (order n (At ((t + 1) % n))))) ≡ length (before w (order n (At t)))
 bus-nearer n t w token station other =
-    let head = token-head n t token in
+    let head = BusLaws.token-head n t token in
     let r = rw (Laws.start-at t) at (Laws.order-turned n (At t) head) in
     let later : member w (r .0) ≡ true = rw (r .1, other) at (Laws.order-member n (At t) w (omega arith) station) in
     rw (r .1, r .2, Lists.before-left w (r .0) (t ∷ []) later, other)
@@ -213,7 +194,7 @@ acknowledged-grant n w station (c ∷ cs) rest t token run asking more =
     (λ g.
     let other : eqb w t ≡ false = not-at-token g in
     let to : Bus.next n t (c .acknowledged) (c .cycle .asks) ≡ (t + 1) % n =
-    rw a (BusLaws.next-acknowledged n t (c .cycle .asks) (bus-grants n t w (c .cycle .asks) token station (asking .0))) in
+    rw a (BusLaws.next-acknowledged n t (c .cycle .asks) (BusLaws.granted-some n t w (c .cycle .asks) token station (asking .0))) in
     rw (a, g)
     (omega (
       arith,
@@ -230,7 +211,8 @@ acknowledged-grant n w station (c ∷ cs) rest t token run asking more =
         Lists.split (eqb w t)
         (λ i.
         let q : w ≡ t = eqb-true w t i in
-        absurd (true≢false (sym (bus-grants-first n t (c .cycle) token (run .0) (rw q at (asking .0))) ∙ rw q at g)))
+        let first : getD (c .cycle .buffer) w 0 ≡ 1 = rw (run .0, q) (BusLaws.grants-token n t (c .cycle .asks) token (rw q at (asking .0))) in
+        absurd (true≢false (sym (eq-eqb _ 1 first) ∙ g)))
         (λ i. i)
 
 pub bus-bounded-waiting : BusBoundedWaiting
@@ -238,4 +220,4 @@ bus-bounded-waiting n t w past asking rest token station run asks acknowledged =
     let r = resumed (λ u c. c .cycle .buffer ≡ Bus.grants n u (c .cycle .asks)) (λ u c. Bus.next n u (c .acknowledged) (c .cycle .asks)) (λ u. u < n)
     (λ u c. BusLaws.next-below n u (c .acknowledged) (c .cycle .asks)) past (asking ++ rest) t token run in
     acknowledged-grant n w station asking rest (r .0) (r .1) (r .2) asks
-    (omega (arith, Laws.before-length n (At (r .0)) w (rw (Laws.start-at (r .0)) (omega (arith, r .1))) station))
+    (omega (arith, Laws.before-length n (At (r .0)) w (le-of-lt (BusLaws.token-head n (r .0) (r .1))) station))

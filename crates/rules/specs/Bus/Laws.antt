@@ -6,8 +6,31 @@ use mathlib.Core.Bool.{Bool, true, false}
 use mathlib.Core.List.{List, [], _∷_}
 use native.Mathlib.Omega.{arith}
 use native.Mathlib.Nat.{mod-lt}
-use lib.ListN.{length}
-use Rattle.rules.specs.Bus.{granted, after, next}
+use lib.ListN.{length, getD}
+use Rattle.rules.specs.declared.Head.the-variants.{At}
+use Rattle.rules.specs.Lists.{before}
+use Rattle.rules.specs.RoundRobin.{start, order}
+use Rattle.rules.specs.RoundRobin.Laws as RoundRobin
+use Rattle.rules.specs.Bus.{granted, grants, after, next}
+
+-- the token is a head of the order
+pub token-head : (n t : ℕ) → t < n → start (At t) < n
+token-head n t token = rw (RoundRobin.start-at t) token
+
+-- somebody is granted if somebody asks
+pub granted-some : (n t w : ℕ) (asks : ℕ → Bool) → t < n → w < n → asks w ≡ true → 0 < length (granted n t asks)
+unfolding granted
+granted-some n t w asks token station asking =
+    let head = token-head n t token in
+    omega (arith, RoundRobin.granted-length n 1 (At t) asks, RoundRobin.before-count n (At t) asks w (omega arith) station asking)
+
+-- the station at the token is granted if it asks
+pub grants-token : (n t : ℕ) (asks : ℕ → Bool) → t < n → asks t ≡ true → getD (grants n t asks) t 0 ≡ 1
+unfolding grants
+grants-token n t asks token asking =
+    let head = token-head n t token in
+    let first : before t (order n (At t)) ≡ [] = rw (RoundRobin.start-at t) at (RoundRobin.before-first n (At t) head) in
+    rw (RoundRobin.grants-member n 1 (At t) asks t token, RoundRobin.granted-member n 1 (At t) asks t (omega arith) token, asking, first)
 
 -- without an acknowledge the token stays
 pub next-unacknowledged : (n t : ℕ) (asks : ℕ → Bool) → next n t false asks ≡ t
