@@ -1,7 +1,7 @@
 -- The words on lists and tests in which the rules are written.
 -- Assumes nothing.
 use Prim.Native.Nat.{ℕ, zero, suc, _+_}
-use mathlib.Core.Bool.{Bool, true, false, cond, _||_}
+use mathlib.Core.Bool.{Bool, true, false, cond, _&&_, _||_}
 use mathlib.Core.List.{List, [], _∷_}
 use lib.Dec.{eqb}
 pub mod Laws
@@ -40,3 +40,10 @@ before w (x ∷ xs) = cond (eqb w x) [] (x ∷ before w xs)
 abbrev pub last : ℕ → List ℕ → ℕ
 last x [] = x
 last x (y ∷ ys) = last y ys
+
+-- the same numbers, in the same order
+abbrev pub same : List ℕ → List ℕ → Bool
+same [] [] = true
+same [] (y ∷ ys) = false
+same (x ∷ xs) [] = false
+same (x ∷ xs) (y ∷ ys) = eqb x y && same xs ys

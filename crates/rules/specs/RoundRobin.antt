@@ -10,6 +10,7 @@ use Rattle.rules.specs.declared.Head.the-variants.{None, At}
 use Rattle.rules.specs.Lists.{bit, range, filter, member, last}
 pub mod Laws
 pub mod Known
+pub mod Trees
 
 -- the station that comes first: the head, or 0 where there is none
 pub start : Head → ℕ

@@ -8,6 +8,7 @@ use lib.ListN.{getD}
 use Rattle.rules.specs.declared.Head.{Head}
 use Rattle.rules.specs.declared.Head.the-variants.{None, At}
 use Rattle.rules.specs.Lists.{bit, range}
+pub mod Laws
 
 -- a node's value, of its two bits S1 and S0
 unfoldable pub value : Bool → Bool → ℕ

@@ -8,7 +8,7 @@ use native.Mathlib.Omega.{arith}
 use native.Mathlib.Nat.{mod-lt}
 use lib.ListN.{length, getD}
 use Rattle.rules.specs.declared.Head.the-variants.{At}
-use Rattle.rules.specs.Lists.{before}
+use Rattle.rules.specs.Lists.{bit, member, before}
 use Rattle.rules.specs.RoundRobin.{start, order}
 use Rattle.rules.specs.RoundRobin.Laws as RoundRobin
 use Rattle.rules.specs.Bus.{granted, grants, after, next}
@@ -23,6 +23,11 @@ unfolding granted
 granted-some n t w asks token station asking =
     let head = token-head n t token in
     omega (arith, RoundRobin.granted-length n 1 (At t) asks, RoundRobin.before-count n (At t) asks w (omega arith) station asking)
+
+-- the grant buffer is 1 for the granted, and 0 for the others
+pub grants-member : (n t : ℕ) (asks : ℕ → Bool) (w : ℕ) → w < n → getD (grants n t asks) w 0 ≡ bit (member w (granted n t asks))
+unfolding granted grants
+grants-member n t asks w station = RoundRobin.grants-member n 1 (At t) asks w station
 
 -- the station at the token is granted if it asks
 pub grants-token : (n t : ℕ) (asks : ℕ → Bool) → t < n → asks t ≡ true → getD (grants n t asks) t 0 ≡ 1

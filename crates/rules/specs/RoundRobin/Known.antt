@@ -7,7 +7,7 @@ use mathlib.Core.Path.{_≡_, refl}
 use lib.Dec.{eqb}
 use Rattle.rules.specs.declared.Head.{Head}
 use Rattle.rules.specs.declared.Head.the-variants.{None, At}
-use Rattle.rules.specs.Lists.{count, member}
+use Rattle.rules.specs.Lists.{count, member, same}
 use Rattle.rules.specs.RoundRobin.{start, order, granted, after, next}
 use Rattle.rules.specs.Tree.{value, s1, s0, headAt, leaf, join, joined, nodes}
 use Rattle.rules.specs.Bus as Bus
@@ -36,13 +36,6 @@ starred =
     ∷ tree 4 (At 2) (0 ∷ 1 ∷ []) (0 ∷ 2 ∷ 1 ∷ 2 ∷ 1 ∷ 1 ∷ 2 ∷ 0 ∷ [])
     ∷ []
 
--- the same numbers, in the same order
-same : List ℕ → List ℕ → Bool
-same [] [] = true
-same [] (y ∷ ys) = false
-same (x ∷ xs) [] = false
-same (x ∷ xs) (y ∷ ys) = eqb x y && same xs ys
-
 -- the rules give this entry
 pub right : Entry → Bool
 right (turn n m h asking out to) =
@@ -53,5 +46,5 @@ right (tree n h asking out) = same (nodes n h (λ w. member w asking)) out
 
 -- they give all twelve
 pub known : count right starred ≡ 12
-unfolding starred same right start order granted after next Bus.granted Bus.after Bus.next value s1 s0 headAt leaf join joined nodes
+unfolding starred right start order granted after next Bus.granted Bus.after Bus.next value s1 s0 headAt leaf join joined nodes
 known = refl

@@ -66,7 +66,7 @@ from-turned n s l = (
 after-last : (n : ℕ) (h : Head) (front : List ℕ) (w : ℕ) → after n h (front ++ (w ∷ [])) ≡ At ((w + 1) % n)
 unfolding after
 after-last n h [] w = refl
-after-last n h (x ∷ front) w = rw (Lists.last-snoc x front w)
+after-last n h (x ∷ front) w = ap (λ (k : ℕ). At ((k + 1) % n)) (Lists.last-snoc x front w)
 
 after-head : (n : ℕ) (h : Head) (xs : List ℕ) → start h < n → (k : ℕ) × (k < n) × (after n h xs ≡ At k)
 unfolding after start
