@@ -256,6 +256,59 @@ getD-table f a (suc k) (suc i) l = rw (add-suc a i, ← suc-add a i) (getD-table
 pub length-table : (f : ℕ → ℕ) (a k : ℕ) → length (map f (range a k)) ≡ k
 length-table f a k = length-map (range a k) f ∙ length-range a k
 
+-- nothing of a range passes a test that fails at all its numbers
+pub filter-none : (p : ℕ → Bool) (a k : ℕ) → ((i : ℕ) → a ≤ i → i < a + k → p i ≡ false) → filter p (range a k) ≡ []
+filter-none p a zero h = refl
+filter-none p a (suc k) h = rw (h a (omega arith) (omega arith)) (filter-none p (suc a) k (λ i l u. h i (omega arith) (omega arith)))
+
+-- the first of a range that passes, with those that pass after it
+pub filter-first : (p : ℕ → Bool) (a k w : ℕ) → a ≤ w → w < a + k → ((i : ℕ) → a ≤ i → i < w → p i ≡ false) → p w ≡ true
+    → filter p (range a k) ≡ w ∷ filter p (range (suc w) (a + k - suc w))
+filter-first p a zero w l u h t = absurd (omega arith)
+filter-first p a (suc k) w l u h t =
+    split (eqb a w)
+    (λ e.
+    let same : a ≡ w = eqb-true a w e in
+    let left : a + suc k - suc w ≡ k = omega arith in
+    rw (left, same, t))
+    (λ e.
+    let past : a < w = omega (arith, eqb-false a w e) in
+    let left : suc a + k - suc w ≡ a + suc k - suc w = omega arith in
+    rw (h a (omega arith) past, ← left)
+    (filter-first p (suc a) k w (omega arith) (omega arith) (λ i n v. h i (omega arith) v) t))
+
+-- and the other way round: whoever is first of those that pass is of the range, and the rest are those that pass after it
+pub record First (p : ℕ → Bool) (a k w : ℕ) (ws : List ℕ) : Type 0 where
+  pub low : a ≤ w
+  pub high : w < a + k
+  pub passes : p w ≡ true
+  pub rest : ws ≡ filter p (range (suc w) (a + k - suc w))
+
+pub first-of : (p : ℕ → Bool) (a k w : ℕ) (ws : List ℕ) → filter p (range a k) ≡ w ∷ ws → First p a k w ws
+first-of p a zero w ws e = let z : _≡_ {A = ℕ} 0 1 = cc in absurd (omega arith)
+first-of p a (suc k) w ws e =
+    split (p a)
+    (λ t.
+    let here : a ∷ filter p (range (suc a) k) ≡ w ∷ ws = rw t at e in
+    let same : a ≡ w = cc in
+    let left : k ≡ a + suc k - suc w = omega arith in
+    record {
+      low = omega arith;
+      high = omega arith;
+      passes = rw same at t;
+      rest = rw (← left, ← same) (cc);
+    })
+    (λ t.
+    let there : filter p (range (suc a) k) ≡ w ∷ ws = rw t at e in
+    let r = first-of p (suc a) k w ws there in
+    let left : suc a + k - suc w ≡ a + suc k - suc w = omega arith in
+    record {
+      low = omega (arith, r .low);
+      high = omega (arith, r .high);
+      passes = r .passes;
+      rest = rw (← left) (r .rest);
+    })
+
 -- the last of a list that ends in w
 pub last-snoc : (x : ℕ) (xs : List ℕ) (w : ℕ) → last x (xs ++ (w ∷ [])) ≡ w
 last-snoc x [] w = refl

@@ -1,0 +1,24 @@
+-- The places of a buffer at which a byte passes a test.
+-- Assumes nothing.
+use Prim.Native.Nat.{ℕ, _-_}
+use mathlib.Core.Bool.{Bool}
+use mathlib.Core.List.{List, [], _∷_}
+use lib.Dec.{eqb}
+use lib.ListN.{length, getD}
+use Rattle.rules.specs.declared.Head.{Head}
+use Rattle.rules.specs.declared.Head.the-variants.{None, At}
+use Rattle.rules.specs.Lists.{range, filter}
+pub mod Laws
+
+-- from a place on, in their order
+abbrev pub places : (ℕ → Bool) → ℕ → List ℕ → List ℕ
+places test from bytes = filter (λ i. test (getD bytes i 0)) (range from (length bytes - from))
+
+-- those that hold a 1
+abbrev pub ones : ℕ → List ℕ → List ℕ
+ones from bytes = places (λ b. eqb b 1) from bytes
+
+-- the first of them, or none
+abbrev pub first : List ℕ → Head
+first [] = None
+first (p ∷ ps) = At p

@@ -1,0 +1,69 @@
+-- 01, "Questions each call asks, in this order". n is the width, 01's N; m is the pick count; h is the head.
+-- Assumes nothing.
+use Prim.Native.Nat.{ℕ}
+use mathlib.Core.Bool.{Bool, true, false, cond, _&&_}
+use mathlib.Core.List.{List, [], _∷_}
+use lib.Dec.{eqb, ltb, leb}
+use lib.ListN.{drop}
+use Rattle.rules.specs.declared.Head.{Head}
+use Rattle.rules.specs.declared.Head.the-variants.{None, At}
+use Rattle.arbiter.specs.declared.State.{State}
+use Rattle.arbiter.specs.declared.question.Verdict.{Verdict}
+use Rattle.arbiter.specs.Places.{places, ones}
+pub mod Laws
+
+-- no refusal
+abbrev pub passed : Verdict
+passed = record { number = 0; place = 0 }
+
+-- a question's answer: "No" refuses with the question's number, at a place
+abbrev pub refuseUnless : Bool → ℕ → ℕ → Verdict
+refuseUnless true number place = passed
+refuseUnless false number place = record { number = number; place = place }
+
+-- a refusal at the first of these places, if there is one
+abbrev pub refuseAtFirst : ℕ → List ℕ → Verdict
+refuseAtFirst number [] = passed
+refuseAtFirst number (p ∷ ps) = record { number = number; place = p }
+
+infixr 20 _then_
+-- one question after another: the first that refuses decides
+unfoldable pub _then_ : Verdict → Verdict → Verdict
+a then b = cond (eqb (a .number) 0) b a
+
+-- the most stations: 01's 256
+abbrev pub maxWidth : ℕ
+maxWidth = 256
+
+-- 1: "Is N in 1 to 256?"
+abbrev pub width : ℕ → Verdict
+width n = refuseUnless (leb 1 n && leb n maxWidth) 1 0
+
+-- 3: "Is m allowed": 1 to 8 and at most N
+abbrev pub picks : ℕ → ℕ → Verdict
+picks n m = refuseUnless ((leb 1 m && leb m 8) && leb m n) 3 0
+
+-- 4: "Is the head none or below N"
+abbrev pub head : ℕ → Head → Verdict
+head n None = passed
+head n (At h) = refuseUnless (ltb h n) 4 0
+
+-- 5: is the buffer to be read "exactly as long as stated"
+abbrev pub readLength : ℕ → ℕ → Verdict
+readLength stated length = refuseUnless (eqb length stated) 5 0
+
+-- 6: the same of the buffer to be written
+abbrev pub writeLength : ℕ → ℕ → Verdict
+writeLength stated length = refuseUnless (eqb length stated) 6 0
+
+-- 8: "Is every byte read 0 or 1", from a place on; "the place of the first that is not"
+abbrev pub bits : ℕ → List ℕ → Verdict
+bits from bytes = refuseAtFirst 8 (places (ltb 1) from bytes)
+
+-- 10: "Has a wire image at most one 1"; "the place of the second"
+abbrev pub oneHot : List ℕ → Verdict
+oneHot image = refuseAtFirst 10 (drop 1 (ones 0 image))
+
+-- 1, 3 and 4 of a state
+abbrev pub state : State → Verdict
+state s = width (s .width) then picks (s .width) (s .picks) then head (s .width) (s .head)

@@ -1,0 +1,65 @@
+-- Laws of the questions: how a call that asks one after another meets its definition, and what it knows once all have passed.
+-- Assumes nothing.
+use Prim.Native.Nat.{ℕ, suc, _+_, _≤_, _<_}
+use mathlib.Core.Path.{_≡_, refl, sym, ap, _∙_}
+use mathlib.Core.Bool.{Bool, true, false, _&&_}
+use mathlib.Core.List.{List, [], _∷_}
+use native.Mathlib.Omega.{arith}
+use native.Mathlib.Numerals.{add-one}
+use lib.Dec.{eqb, ltb, leb}
+use lib.ListN.{drop}
+use borrow.Author.Tests.{eq-eqb, ne-eqb, eqb-true, eqb-false, leb-true, ltb-true}
+use Rattle.rules.specs.declared.Head.{Head}
+use Rattle.rules.specs.declared.Head.the-variants.{None, At}
+use Rattle.rules.specs.Lists.Laws as Lists
+use Rattle.rules.specs.RoundRobin.{start}
+use Rattle.rules.specs.RoundRobin.Laws as RoundRobin
+use Rattle.arbiter.specs.declared.State.{State}
+use Rattle.arbiter.specs.declared.question.Verdict.{Verdict}
+use Rattle.arbiter.specs.Places.{ones, first}
+use Rattle.arbiter.specs.Places.Laws.{found}
+use Rattle.arbiter.specs.Questions.{refuseUnless, refuseAtFirst, _then_, maxWidth, oneHot, state}
+
+-- r is the verdict on a, the first question. If it refuses, it decides
+pub refused : {a r : Verdict} (b : Verdict) → r ≡ a → (r .number ≡ 0 → ⊥) → r ≡ (a then b)
+unfolding _then_
+refused b e not-zero = e ∙ sym (rw (← e, ne-eqb _ 0 not-zero))
+
+-- if it does not, the others do
+pub passed : {a r b x : Verdict} → r ≡ a → r .number ≡ 0 → x ≡ b → x ≡ (a then b)
+unfolding _then_
+passed e z f = f ∙ sym (rw (← e, eq-eqb _ 0 z))
+
+-- where no question refuses, neither the first does nor any after it
+pub then-served : (a b : Verdict) → (a then b) .number ≡ 0 → (a .number ≡ 0) × (b .number ≡ 0)
+unfolding _then_
+then-served a b z =
+    Lists.split (eqb (a .number) 0)
+    (λ e. (eqb-true _ 0 e, rw e at z))
+    (λ e. absurd (eqb-false _ 0 e (rw e at z)))
+
+-- a question that does not refuse has been answered yes
+pub unless-served : (yes : Bool) (k place : ℕ) → (refuseUnless yes (suc k) place) .number ≡ 0 → yes ≡ true
+unless-served true k place z = refl
+unless-served false k place z = absurd (omega arith)
+
+-- a question with a place refuses at the first, if there is one
+pub refuse-none : (k : ℕ) (ps : List ℕ) → first ps ≡ None → refuseAtFirst k ps ≡ refuseUnless true k 0
+refuse-none k [] e = refl
+refuse-none k (p ∷ ps) e = let z : _≡_ {A = ℕ} 0 1 = cc in absurd (omega arith)
+
+pub refuse-at : (k i : ℕ) (ps : List ℕ) → first ps ≡ At i → refuseAtFirst k ps ≡ refuseUnless false k i
+refuse-at k i [] e = let z : _≡_ {A = ℕ} 0 1 = cc in absurd (omega arith)
+refuse-at k i (p ∷ ps) e = let same : p ≡ i = cc in rw same
+
+-- an image with no 1
+pub one-hot-none : (image : List ℕ) → first (ones 0 image) ≡ None → oneHot image ≡ refuseUnless true 10 0
+one-hot-none image e = by (ones 0 image) e
+  where
+    by : (ps : List ℕ) → first ps ≡ None → refuseAtFirst 10 (drop 1 ps) ≡ refuseUnless true 10 0
+    by [] f = refl
+    by (p ∷ ps) f = let z : _≡_ {A = ℕ} 0 1 = cc in absurd (omega arith)
+
+-- an image whose first 1 is at i: the second is the first after it
+pub one-hot-rest : (image : List ℕ) (i : ℕ) → first (ones 0 image) ≡ At i → oneHot image ≡ refuseAtFirst 10 (ones (i + 1) image)
+one-hot-rest image i e = rw add-one (ap (λ (ps : List ℕ). refuseAtFirst 10 (drop 1 ps)) (found (λ b. eqb b 1) 0 i image e .all))
