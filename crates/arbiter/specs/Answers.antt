@@ -4,21 +4,43 @@ use Prim.Native.Nat.{ℕ}
 use mathlib.Core.Bool.{Bool, cond}
 use mathlib.Core.List.{List}
 use lib.Dec.{eqb}
-use lib.ListN.{getD}
 use Rattle.rules.specs.declared.Head.{Head}
 use Rattle.rules.specs.declared.Head.the-variants.{None}
 use Rattle.arbiter.specs.declared.Answer.{Answer}
 use Rattle.arbiter.specs.declared.State.{State}
 use Rattle.arbiter.specs.declared.question.Verdict.{Verdict}
+pub mod Laws
 
 -- a state with another head
 abbrev pub moved : State → Head → State
 moved s h = record { width = s .width; picks = s .picks; head = h }
 
--- what a refused call returns that was to make a state: "N 0, m 0, no head"
-abbrev pub noState : State
-noState = record { width = 0; picks = 0; head = None }
+-- what a call that makes a state returns where it is refused: "N 0, m 0, no head"
+abbrev pub nothing : State
+nothing = record { width = 0; picks = 0; head = None }
 
--- the answer of a call that grants nothing: a refusal, or a served call that is no cycle
-abbrev pub answered : Verdict → State → Answer
-answered v s = record { number = v .number; place = v .place; count = 0; state = s }
+-- a served call: number and place 0, the count of grants and the state
+abbrev pub served : ℕ → State → Answer
+served count s = record { number = 0; place = 0; count = count; state = s }
+
+-- a refused call: "count 0 and the state as given"
+abbrev pub refused : Verdict → State → Answer
+refused v s = record { number = v .number; place = v .place; count = 0; state = s }
+
+-- one thing where no question refuses, another where one does
+unfoldable pub ifPassed : {A : Type 0} → Verdict → A → A → A
+ifPassed v a b = cond (eqb (v .number) 0) a b
+
+-- a call that makes the state s
+abbrev pub opened : Verdict → State → Answer
+opened v s = ifPassed v (served 0 s) (refused v nothing)
+
+-- what a call that writes a buffer leaves: its answer, and the bytes that the buffer then holds
+pub record Outcome : Type 0 where
+  pub answer : Answer
+  pub written : List ℕ
+
+-- a call given the state s, which writes these bytes if it is served; a refusal "writes nothing"
+unfoldable pub writes : Verdict → State → Answer → List ℕ → List ℕ → Outcome
+writes v s answer bytes former =
+    ifPassed v (record { answer = answer; written = bytes }) (record { answer = refused v s; written = former })

@@ -1,3 +1,5 @@
 pub mod Places
 pub mod Questions
 pub mod Answers
+pub mod OneHot
+pub mod Snapshot

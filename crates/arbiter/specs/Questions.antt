@@ -67,3 +67,7 @@ oneHot image = refuseAtFirst 10 (drop 1 (ones 0 image))
 -- 1, 3 and 4 of a state
 abbrev pub state : State → Verdict
 state s = width (s .width) then picks (s .width) (s .picks) then head (s .width) (s .head)
+
+-- those of a call that writes what a state holds to a buffer: 1, 3, 4 and 6
+abbrev pub write : State → ℕ → ℕ → Verdict
+write s stated length = state s then writeLength stated length

@@ -1,13 +1,14 @@
 // The state of an arbiter, the answer of a call, the questions that calls ask, and two ways of keeping the head.
+mod one_hot;
 pub mod question;
 pub mod refusal;
+mod snapshot;
 
 use question::Verdict;
 use rules::Head;
 ghost use mathlib.Core.Path.{_≡_};
 ghost use lib.ListN.{length, replicate};
 ghost use Rattle.arbiter.specs.Answers as Answers;
-ghost use Rattle.arbiter.specs.Places as Places;
 
 // The most stations, and the most picks in one cycle.
 pub const MAX_WIDTH: usize = 256;
@@ -21,8 +22,8 @@ pub struct State {
     pub head: Head,
 }
 
-// What a call answers: the number of its refusal (0 when served), the place for some refusals, the count of grants and the
-// state.
+// What a call answers: the number of its refusal (0 when served), the place for refusals 8 and 10, the count of grants (0 for
+// a call that is no cycle) and the state.
 pub struct Answer {
     pub number: usize,
     pub place: usize,
@@ -42,9 +43,21 @@ impl State {
         }
     }
 
-    // The answer of a call that grants nothing and returns this state.
-    pub fn answered(self, verdict: Verdict) -> Answer
-        ensures { λ r. ⌜ r ≡ Answers.answered verdict self ⌝ }
+    // The answer of a served call that grants `count` and returns this state.
+    pub fn served(self, count: usize) -> Answer
+        ensures { λ r. ⌜ r ≡ Answers.served count self ⌝ }
+    {
+        Answer {
+            number: refusal::SERVED,
+            place: 0,
+            count,
+            state: self,
+        }
+    }
+
+    // The answer of a refused call that was given this state.
+    pub fn refused(self, verdict: Verdict) -> Answer
+        ensures { λ r. ⌜ r ≡ Answers.refused verdict self ⌝ }
     {
         Answer {
             number: verdict.number,
@@ -53,20 +66,27 @@ impl State {
             state: self,
         }
     }
-}
 
-// The place of the first 1 from `from` on, or none.
-fn first_one(from: usize, bytes: &[u8]) -> Head
-    ensures { λ r. ⌜ r ≡ Places.first (Places.ones from (now (bytes .entry))) ⌝ }
-{
-    let mut i = from;
-    while i < bytes.len() {
-        if bytes[i] == 1 {
-            return Head::At(i);
+    // The answer of a call that makes this state, or is refused and returns none.
+    pub fn opened(self, verdict: Verdict) -> Answer
+        ensures { λ r. ⌜ r ≡ Answers.opened verdict self ⌝ }
+    {
+        if verdict.number == refusal::SERVED {
+            return self.served(0);
         }
-        i += 1;
+        State::nothing().refused(verdict)
     }
-    Head::None
+
+    // What a call that makes a state returns where it is refused: width 0, no picks and no head.
+    fn nothing() -> State
+        ensures { λ r. ⌜ r ≡ Answers.nothing ⌝ }
+    {
+        State {
+            width: 0,
+            picks: 0,
+            head: Head::None,
+        }
+    }
 }
 
 // Sets every byte to 0.

@@ -3,7 +3,7 @@
 use crate::MAX_PICKS;
 use crate::MAX_WIDTH;
 use crate::State;
-use crate::first_one;
+use crate::one_hot::first_one;
 use crate::refusal;
 use rules::Head;
 ghost use mathlib.Core.Path.{_≡_};
@@ -113,4 +113,15 @@ pub fn state(s: State) -> Verdict
     }
     let h = s.head;
     head(s.width, h)
+}
+
+// Questions 1, 3, 4 and 6 of a call that writes what a state holds to a buffer.
+pub(crate) fn write(s: State, stated: usize, length: usize) -> Verdict
+    ensures { λ r. ⌜ r ≡ Questions.write s stated length ⌝ }
+{
+    let by_state = state(s);
+    if by_state.number != refusal::SERVED {
+        return by_state;
+    }
+    write_length(stated, length)
 }

@@ -2,7 +2,7 @@
 -- Assumes nothing.
 use Prim.Native.Nat.{ℕ, suc, _+_, _≤_, _<_}
 use mathlib.Core.Path.{_≡_, refl, sym, ap, _∙_}
-use mathlib.Core.Bool.{Bool, true, false, _&&_}
+use mathlib.Core.Bool.{Bool, true, false, _&&_, true≢false}
 use mathlib.Core.List.{List, [], _∷_}
 use native.Mathlib.Omega.{arith}
 use native.Mathlib.Numerals.{add-one}
@@ -18,7 +18,7 @@ use Rattle.arbiter.specs.declared.State.{State}
 use Rattle.arbiter.specs.declared.question.Verdict.{Verdict}
 use Rattle.arbiter.specs.Places.{ones, first}
 use Rattle.arbiter.specs.Places.Laws.{found}
-use Rattle.arbiter.specs.Questions.{refuseUnless, refuseAtFirst, _then_, maxWidth, oneHot, state}
+use Rattle.arbiter.specs.Questions.{refuseUnless, refuseAtFirst, _then_, maxWidth, width, picks, head, writeLength, oneHot, state, write}
 
 -- r is the verdict on a, the first question. If it refuses, it decides
 pub refused : {a r : Verdict} (b : Verdict) → r ≡ a → (r .number ≡ 0 → ⊥) → r ≡ (a then b)
@@ -63,3 +63,60 @@ one-hot-none image e = by (ones 0 image) e
 -- an image whose first 1 is at i: the second is the first after it
 pub one-hot-rest : (image : List ℕ) (i : ℕ) → first (ones 0 image) ≡ At i → oneHot image ≡ refuseAtFirst 10 (ones (i + 1) image)
 one-hot-rest image i e = rw add-one (ap (λ (ps : List ℕ). refuseAtFirst 10 (drop 1 ps)) (found (λ b. eqb b 1) 0 i image e .all))
+
+-- what is known of a state once 1, 3 and 4 have passed
+pub record Allowed (s : State) : Type 0 where
+  pub some : 1 ≤ s .width
+  pub most : s .width ≤ maxWidth
+  pub picked : 1 ≤ s .picks
+  pub few : s .picks ≤ 8
+  pub fit : s .picks ≤ s .width
+  pub station : start (s .head) < s .width
+
+both : (a b : Bool) → (a && b) ≡ true → (a ≡ true) × (b ≡ true)
+both true b e = (refl, e)
+both false b e = absurd (true≢false (sym e))
+
+pub width-served : (n : ℕ) → (width n) .number ≡ 0 → (1 ≤ n) × (n ≤ maxWidth)
+width-served n z =
+    let t = both (leb 1 n) (leb n maxWidth) (unless-served _ 0 0 z) in
+    (leb-true 1 n (t .0), leb-true n maxWidth (t .1))
+
+pub picks-served : (n m : ℕ) → (picks n m) .number ≡ 0 → (1 ≤ m) × (m ≤ 8) × (m ≤ n)
+picks-served n m z =
+    let t = both (leb 1 m && leb m 8) (leb m n) (unless-served _ 2 0 z) in
+    let u = both (leb 1 m) (leb m 8) (t .0) in
+    (leb-true 1 m (u .0), leb-true m 8 (u .1), leb-true m n (t .1))
+
+pub head-served : (n : ℕ) (h : Head) → 1 ≤ n → (head n h) .number ≡ 0 → start h < n
+head-served n None l z = omega (arith, RoundRobin.start-none)
+head-served n (At h) l z = omega (arith, RoundRobin.start-at h, ltb-true h n (unless-served _ 3 0 z))
+
+pub length-served : (k stated length : ℕ) → (refuseUnless (eqb length stated) (suc k) 0) .number ≡ 0 → length ≡ stated
+length-served k stated length z = eqb-true length stated (unless-served _ k 0 z)
+
+pub allowed : (s : State) → (state s) .number ≡ 0 → Allowed s
+allowed s z =
+    let rest = picks (s .width) (s .picks) then head (s .width) (s .head) in
+    let one = then-served (width (s .width)) rest z in
+    let two = then-served (picks (s .width) (s .picks)) (head (s .width) (s .head)) (one .1) in
+    let w = width-served (s .width) (one .0) in
+    let p = picks-served (s .width) (s .picks) (two .0) in
+    record {
+      some = w .0;
+      most = w .1;
+      picked = p .0;
+      few = p .1;
+      fit = p .2;
+      station = head-served (s .width) (s .head) (w .0) (two .1);
+    }
+
+-- what is known of a call that writes once 1, 3, 4 and 6 have passed: r is its verdict
+pub record Writable (s : State) (stated length : ℕ) : Type 0 where
+  pub allows : Allowed s
+  pub long : length ≡ stated
+
+pub writable : {r : Verdict} (s : State) (stated length : ℕ) → r ≡ write s stated length → r .number ≡ 0 → Writable s stated length
+writable s stated length e z =
+    let both = then-served (state s) (writeLength stated length) (ap (λ (v : Verdict). v .number) (sym e) ∙ z) in
+    record { allows = allowed s (both .0); long = length-served 5 stated length (both .1) }

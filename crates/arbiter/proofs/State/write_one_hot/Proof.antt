@@ -1,0 +1,97 @@
+-- `write_one_hot` meets its contract: the image is cleared, and then set at the head.
+-- Assumes nothing.
+use Prim.Native.Nat.{ℕ, _<_}
+use mathlib.Core.Path.{_≡_, sym, ap, _∙_}
+use mathlib.Core.List.{List}
+use native.Mathlib.Omega.{arith}
+use lib.ListN.{length, set, replicate, length-set}
+use borrow.Author.Needs.{needs}
+use Rattle.rules.specs.RoundRobin.{start}
+use Rattle.rules.specs.RoundRobin.Laws.{start-at}
+use Rattle.arbiter.specs.Questions.Laws.{Writable, writable}
+use Rattle.arbiter.specs.Answers.Laws.{written, unwritten}
+use Rattle.arbiter.specs.OneHot.{image}
+use Rattle.arbiter.proofs.State.write_one_hot.Statement.{statement}
+use Rattle.arbiter.proofs.State.write_one_hot.Tie as tie
+
+write-requires : tie.Need-write-requires
+write-requires c κs = search needs
+
+refused-requires : tie.Need-refused-requires
+refused-requires c κs = search needs
+
+returns : tie.Need-returns
+returns c = let v = c .before .before .before .write .ensures in unwritten _ _ _ v (c .before .if1 .taken) (c .refused .ensures)
+
+-- what is known once the questions have passed
+ready : (c : tie.Else1)
+    → let a = c .before .before .before .before .args in Writable (a .self) (a .self .width) (length (a .image .now))
+ready c = writable _ _ _ (c .before .before .write .ensures) (c .if1 .left)
+
+clear-requires : tie.Need-clear-requires
+clear-requires c κs = search needs
+
+enum-known-head : tie.Need-enum-known-head
+enum-known-head c = search needs
+
+enum-told : tie.Need-enum-told
+enum-told c = search needs
+
+served-requires : tie.Need-served-requires
+served-requires c κs = search needs
+
+same-length : tie.Need-same-length
+same-length c = omega (arith, c .before .before .before .before .before .clear .kept .0)
+
+returns-2 : tie.Need-returns-2
+unfolding image
+returns-2 c =
+    let k = c .before .before .before .before .before in
+    let e = k .before .before in
+    written _ _ (e .before .before .write .ensures) (e .if1 .left) (c .served .ensures)
+    (k .clear .ensures ∙ rw (c .before .enum-told .given .1, ready e .long))
+
+slice-write-image : tie.Need-slice-write-image
+slice-write-image c =
+    let k = c .before .before .before .before .before in
+    omega (
+      arith,
+      k .clear .kept .0,
+      ready (k .before .before) .long,
+      ready (k .before .before) .allows .station,
+      ap start (c .before .head .given .1),
+      start-at (c .before .head .given .0 .0),
+    )
+
+served-requires-2 : tie.Need-served-requires-2
+served-requires-2 c κs = search needs
+
+same-length-2 : tie.Need-same-length-2
+same-length-2 c = simp length-set (omega (arith, c .before .before .before .before .before .before .clear .kept .0))
+
+returns-3 : tie.Need-returns-3
+unfolding image
+returns-3 c =
+    let k = c .before .before .before .before .before .before in
+    let e = k .before .before in
+    written _ _ (e .before .before .write .ensures) (e .if1 .left) (c .served2 .ensures)
+    (ap (λ (l : List ℕ). set l (c .before .before .head .given .0 .0) 1) (k .clear .ensures)
+    ∙ rw (c .before .before .head .given .1, ready e .long))
+
+pub write-one-hot-spec : {M : Type 1} → statement M
+write-one-hot-spec =
+    tie.close
+    (tie.spec
+    write-requires
+    refused-requires
+    returns
+    clear-requires
+    enum-known-head
+    enum-told
+    served-requires
+    same-length
+    returns-2
+    slice-write-image
+    served-requires-2
+    same-length-2
+    returns-3)

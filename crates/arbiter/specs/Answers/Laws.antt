@@ -1,0 +1,39 @@
+-- Laws of the answers: how a call that returns early where a question refuses meets its definition. v is what the questions
+-- say by their definition, and r the verdict that the call has in hand.
+-- Assumes nothing.
+use Prim.Native.Nat.{ℕ}
+use mathlib.Core.Path.{_≡_, sym, ap, _∙_}
+use mathlib.Core.List.{List}
+use borrow.Author.Tests.{eq-eqb, ne-eqb}
+use Rattle.arbiter.specs.declared.Answer.{Answer}
+use Rattle.arbiter.specs.declared.State.{State}
+use Rattle.arbiter.specs.declared.question.Verdict.{Verdict}
+use Rattle.arbiter.specs.Answers.{refused, ifPassed, writes}
+
+-- the call passes
+pub if-passed : {A : Type 0} {v r : Verdict} {a x : A} (b : A) → r ≡ v → r .number ≡ 0 → x ≡ a → x ≡ ifPassed v a b
+unfolding ifPassed
+if-passed b e z f = f ∙ sym (rw (← e, eq-eqb _ 0 z))
+
+-- the call is refused
+pub if-refused : {A : Type 0} {v r : Verdict} {b x : A} (a : A) → r ≡ v → (r .number ≡ 0 → ⊥) → x ≡ b → x ≡ ifPassed v a b
+unfolding ifPassed
+if-refused a e n f = f ∙ sym (rw (← e, ne-eqb _ 0 n))
+
+-- its answer has the verdict in hand
+pub refusal : {v r : Verdict} {s : State} {x : Answer} → r ≡ v → x ≡ refused r s → x ≡ refused v s
+refusal e f = f ∙ rw e
+
+-- a served call answers and writes
+pub written : {v r : Verdict} {answer x : Answer} {target bytes : List ℕ} (s : State) (former : List ℕ) → r ≡ v → r .number ≡ 0
+    → x ≡ answer → bytes ≡ target
+    → (x ≡ (writes v s answer target former) .answer) × (bytes ≡ (writes v s answer target former) .written)
+unfolding writes ifPassed
+written s former e z f g = (f ∙ sym (rw (← e, eq-eqb _ 0 z)), g ∙ sym (rw (← e, eq-eqb _ 0 z)))
+
+-- a refused call leaves the former bytes
+pub unwritten : {v r : Verdict} {s : State} {x : Answer} (answer : Answer) (target former : List ℕ) → r ≡ v
+    → (r .number ≡ 0 → ⊥) → x ≡ refused r s
+    → (x ≡ (writes v s answer target former) .answer) × (former ≡ (writes v s answer target former) .written)
+unfolding writes ifPassed
+unwritten answer target former e n f = (f ∙ sym (rw (← e, ne-eqb _ 0 n)), sym (rw (← e, ne-eqb _ 0 n)))
