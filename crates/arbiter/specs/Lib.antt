@@ -3,3 +3,4 @@ pub mod Questions
 pub mod Answers
 pub mod OneHot
 pub mod Snapshot
+pub mod Cycle

@@ -7,6 +7,7 @@ use crate::one_hot::first_one;
 use crate::refusal;
 use rules::Head;
 ghost use mathlib.Core.Path.{_≡_};
+ghost use Rattle.arbiter.specs.Cycle as Cycle;
 ghost use Rattle.arbiter.specs.Questions as Questions;
 
 // What a question says: the number and the place of its refusal, both 0 where it does not refuse.
@@ -16,7 +17,7 @@ pub struct Verdict {
 }
 
 // The verdict of a question with this number: yes passes, no refuses at a place.
-pub fn refuse_unless(yes: bool, number: usize, place: usize) -> Verdict
+pub(crate) fn refuse_unless(yes: bool, number: usize, place: usize) -> Verdict
     ensures { λ r. ⌜ r ≡ Questions.refuseUnless yes number place ⌝ }
 {
     if yes {
@@ -85,7 +86,7 @@ pub fn bits(from: usize, bytes: &[u8]) -> Verdict
 }
 
 // Question 10: has a one-hot image at most one 1? The place of a refusal is that of the second.
-pub fn one_hot(image: &[u8]) -> Verdict
+pub(crate) fn one_hot(image: &[u8]) -> Verdict
     ensures { λ r. ⌜ r ≡ Questions.oneHot (now (image .entry)) ⌝ }
 {
     let first = first_one(0, image);
@@ -124,4 +125,24 @@ pub(crate) fn write(s: State, stated: usize, length: usize) -> Verdict
         return by_state;
     }
     write_length(stated, length)
+}
+
+// Questions 1, 3, 4, 5, 6 and 8 of a cycle of the plain scan or the thermometer arbiter, which has a grant buffer of `length`
+// bytes.
+pub fn cycle(s: State, requests: &[u8], length: usize) -> Verdict
+    ensures { λ r. ⌜ r ≡ Cycle.questions s (now (requests .entry)) length ⌝ }
+{
+    let by_state = state(s);
+    if by_state.number != refusal::SERVED {
+        return by_state;
+    }
+    let by_requests = read_length(s.width, requests.len());
+    if by_requests.number != refusal::SERVED {
+        return by_requests;
+    }
+    let by_grants = write_length(s.width, length);
+    if by_grants.number != refusal::SERVED {
+        return by_grants;
+    }
+    bits(0, requests)
 }
