@@ -9,6 +9,7 @@ use rules::Head;
 ghost use mathlib.Core.Path.{_≡_};
 ghost use lib.ListN.{length, replicate};
 ghost use Rattle.arbiter.specs.Answers as Answers;
+ghost use Rattle.arbiter.specs.Cycle as Cycle;
 
 // The most stations, and the most picks in one cycle.
 pub const MAX_WIDTH: usize = 256;
@@ -32,6 +33,14 @@ pub struct Answer {
 }
 
 impl State {
+    // The state that a plain scan or a thermometer arbiter starts from. Asks 1, 3 and 4.
+    pub fn open(width: usize, picks: usize, head: Head) -> Answer
+        ensures { λ r. ⌜ r ≡ Cycle.opening width picks head ⌝ }
+    {
+        let s = State { width, picks, head };
+        s.opened(question::state(s))
+    }
+
     // The state with another head.
     pub fn moved(self, head: Head) -> State
         ensures { λ r. ⌜ r ≡ Answers.moved self head ⌝ }

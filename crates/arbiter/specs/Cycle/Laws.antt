@@ -29,5 +29,5 @@ ready s requests size e z =
     record {
       allows = allowed s (a .0);
       asked = length-served 4 n (length requests) (b .0);
-      room = length-served 5 n size (c .0)
+      room = length-served 5 n size (c .0);
     }

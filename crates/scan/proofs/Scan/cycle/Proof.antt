@@ -1,0 +1,72 @@
+-- `cycle` meets its contract: a walk round gives the rule's grants, count and next head.
+-- Assumes nothing.
+use mathlib.Core.Path.{_≡_, ap, _∙_}
+use native.Mathlib.Omega.{arith}
+use lib.ListN.{length, replicate}
+use borrow.Author.Needs.{needs}
+use Rattle.arbiter.specs.Answers.Laws.{written, unwritten}
+use Rattle.arbiter.specs.Cycle.Laws.{Ready, ready}
+use Rattle.scan.proofs.Walks as Walks
+use Rattle.scan.proofs.Scan.cycle.Statement.{statement}
+use Rattle.scan.proofs.Scan.cycle.Tie as tie
+
+cycle-requires : tie.Need-cycle-requires
+cycle-requires c κs = search needs
+
+refused-requires : tie.Need-refused-requires
+refused-requires c κs = search needs
+
+returns : tie.Need-returns
+returns c = let v = c .before .before .before .cycle .ensures in unwritten _ _ _ v (c .before .if1 .taken) (c .refused .ensures)
+
+-- what is known once the questions have passed
+asked : (c : tie.Else1)
+    → let a = c .before .before .before .before .before .before .args in Ready (a .self .0) (a .requests .now) (length (a .grants .now))
+asked c = ready _ _ _ (c .before .before .cycle .ensures) (c .if1 .left)
+
+clear-requires : tie.Need-clear-requires
+clear-requires c κs = search needs
+
+walk-round-requires : tie.Need-walk-round-requires
+walk-round-requires c κs =
+    let k = c .before .before .before in
+    let e = asked (k .before .before) in
+    (e .allows .station, (e .asked, k .clear .ensures ∙ rw (e .room)))
+
+next-head-requires : tie.Need-next-head-requires
+next-head-requires c κs = search needs
+
+moved-requires : tie.Need-moved-requires
+moved-requires c κs = search needs
+
+served-requires : tie.Need-served-requires
+served-requires c κs = search needs
+
+same-length : tie.Need-same-length
+same-length c = search needs
+
+returns-2 : tie.Need-returns-2
+returns-2 c =
+    let h = c .before .before in
+    let w = h .before .before .before in
+    let e = w .before .before .before .before .before .before in
+    let a = e .before .before .before .before .before .before .args in
+    let next = h .next-head .ensures ∙ Walks.next-is (a .self .0) (a .requests .now) (w .walk-round .result) _ (w .walk-round .ensures) in
+    written _ _ (e .before .before .cycle .ensures) (e .if1 .left)
+    (c .served .ensures ∙ rw (c .before .moved .ensures, next, w .walk-round .ensures .counted))
+    (w .walk-round .ensures .grants)
+
+pub cycle-spec : {M : Type 1} → statement M
+cycle-spec =
+    tie.close
+    (tie.spec
+    cycle-requires
+    refused-requires
+    returns
+    clear-requires
+    walk-round-requires
+    next-head-requires
+    moved-requires
+    served-requires
+    same-length
+    returns-2)
