@@ -4,3 +4,4 @@ pub mod Answers
 pub mod OneHot
 pub mod Snapshot
 pub mod Cycle
+pub mod RoundTrips

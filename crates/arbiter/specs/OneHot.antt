@@ -12,6 +12,7 @@ use Rattle.arbiter.specs.Places.{ones, first}
 use Rattle.arbiter.specs.Questions as Questions
 use Rattle.arbiter.specs.Questions.{_then_}
 use Rattle.arbiter.specs.Answers.{Outcome, moved, served, refused, ifPassed, writes}
+pub mod Laws
 
 -- the image of a head: "N bytes, all 0 for none or a single 1 at the head"
 unfoldable pub image : ℕ → Head → List ℕ

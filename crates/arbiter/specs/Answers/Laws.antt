@@ -2,13 +2,15 @@
 -- say by their definition, and r the verdict that the call has in hand.
 -- Assumes nothing.
 use Prim.Native.Nat.{ℕ}
-use mathlib.Core.Path.{_≡_, sym, ap, _∙_}
+use mathlib.Core.Path.{_≡_, refl, sym, _∙_}
 use mathlib.Core.List.{List}
-use borrow.Author.Tests.{eq-eqb, ne-eqb}
+use lib.Dec.{eqb}
+use borrow.Author.Tests.{eq-eqb, ne-eqb, eqb-true}
+use Rattle.rules.specs.Lists.Laws as Lists
 use Rattle.arbiter.specs.declared.Answer.{Answer}
 use Rattle.arbiter.specs.declared.State.{State}
 use Rattle.arbiter.specs.declared.question.Verdict.{Verdict}
-use Rattle.arbiter.specs.Answers.{refused, ifPassed, writes}
+use Rattle.arbiter.specs.Answers.{Outcome, refused, ifPassed, writes}
 
 -- the call passes
 pub if-passed : {A : Type 0} {v r : Verdict} {a x : A} (b : A) → r ≡ v → r .number ≡ 0 → x ≡ a → x ≡ ifPassed v a b
@@ -37,3 +39,26 @@ pub unwritten : {v r : Verdict} {s : State} {x : Answer} (answer : Answer) (targ
     → (x ≡ (writes v s answer target former) .answer) × (former ≡ (writes v s answer target former) .written)
 unfolding writes ifPassed
 unwritten answer target former e n f = (f ∙ sym (rw (← e, ne-eqb _ 0 n)), sym (rw (← e, ne-eqb _ 0 n)))
+
+-- a call that is served has passed its questions: `number` is the number of its answer
+pub served-passed : {A : Type 0} (v : Verdict) (a b : A) (number : A → ℕ) → number b ≡ v .number → number (ifPassed v a b) ≡ 0
+    → v .number ≡ 0
+unfolding ifPassed
+served-passed v a b number e z =
+    Lists.split (eqb (v .number) 0) (λ t. eqb-true (v .number) 0 t) (λ f. sym e ∙ (rw f at z))
+
+-- and then it is what it is to be
+pub passed-is : {A : Type 0} (v : Verdict) (a b : A) → v .number ≡ 0 → ifPassed v a b ≡ a
+unfolding ifPassed
+passed-is v a b z = rw (eq-eqb (v .number) 0 z)
+
+-- the same of a call that writes
+pub writes-passed : (v : Verdict) (s : State) (answer : Answer) (target former : List ℕ)
+    → (writes v s answer target former) .answer .number ≡ 0 → v .number ≡ 0
+unfolding writes
+writes-passed v s answer target former z = served-passed v _ _ (λ (o : Outcome). o .answer .number) refl z
+
+pub writes-is : (v : Verdict) (s : State) (answer : Answer) (target former : List ℕ) → v .number ≡ 0
+    → writes v s answer target former ≡ record { answer = answer; written = target }
+unfolding writes
+writes-is v s answer target former z = passed-is v _ _ z

@@ -68,3 +68,8 @@ found test from i bytes e = by (places test from bytes) refl e
           passes = rw same at (r .passes);
           all = q ∙ rw (r .rest, left, same);
         }
+
+-- where there is no such place no byte passes
+pub free-of : {test : ℕ → Bool} {from : ℕ} {bytes : List ℕ} → places test from bytes ≡ [] → Free test from (length bytes) bytes
+free-of {test} {from} {bytes} e =
+    record { at = λ k l u. Lists.none-of (λ i. test (getD bytes i 0)) from (length bytes - from) k e l (omega arith) }

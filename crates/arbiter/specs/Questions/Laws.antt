@@ -8,7 +8,7 @@ use native.Mathlib.Omega.{arith}
 use native.Mathlib.Numerals.{add-one}
 use lib.Dec.{eqb, ltb, leb}
 use lib.ListN.{drop}
-use borrow.Author.Tests.{eq-eqb, ne-eqb, eqb-true, eqb-false, leb-true, ltb-true}
+use borrow.Author.Tests.{eq-eqb, ne-eqb, eqb-true, eqb-false, leb-true, ltb-true, le-leb, lt-ltb}
 use Rattle.rules.specs.declared.Head.{Head}
 use Rattle.rules.specs.declared.Head.the-variants.{None, At}
 use Rattle.rules.specs.Lists.Laws as Lists
@@ -38,6 +38,11 @@ then-served a b z =
     (λ e. (eqb-true _ 0 e, rw e at z))
     (λ e. absurd (eqb-false _ 0 e (rw e at z)))
 
+-- and the other way round
+pub then-passed : (a b : Verdict) → a .number ≡ 0 → b .number ≡ 0 → (a then b) .number ≡ 0
+unfolding _then_
+then-passed a b z y = rw (eq-eqb (a .number) 0 z) y
+
 -- a question that does not refuse has been answered yes
 pub unless-served : (yes : Bool) (k place : ℕ) → (refuseUnless yes (suc k) place) .number ≡ 0 → yes ≡ true
 unless-served true k place z = refl
@@ -51,6 +56,11 @@ refuse-none k (p ∷ ps) e = let z : _≡_ {A = ℕ} 0 1 = cc in absurd (omega a
 pub refuse-at : (k i : ℕ) (ps : List ℕ) → first ps ≡ At i → refuseAtFirst k ps ≡ refuseUnless false k i
 refuse-at k i [] e = let z : _≡_ {A = ℕ} 0 1 = cc in absurd (omega arith)
 refuse-at k i (p ∷ ps) e = let same : p ≡ i = cc in rw same
+
+-- it passes where there is none
+pub first-served : (k : ℕ) (ps : List ℕ) → (refuseAtFirst (suc k) ps) .number ≡ 0 → ps ≡ []
+first-served k [] z = refl
+first-served k (p ∷ ps) z = absurd (omega arith)
 
 -- an image with no 1
 pub one-hot-none : (image : List ℕ) → first (ones 0 image) ≡ None → oneHot image ≡ refuseUnless true 10 0
@@ -120,3 +130,23 @@ pub writable : {r : Verdict} (s : State) (stated length : ℕ) → r ≡ write s
 writable s stated length e z =
     let both = then-served (state s) (writeLength stated length) (ap (λ (v : Verdict). v .number) (sym e) ∙ z) in
     record { allows = allowed s (both .0); long = length-served 5 stated length (both .1) }
+
+-- questions that pass
+pub width-passes : (n : ℕ) → 1 ≤ n → n ≤ maxWidth → (width n) .number ≡ 0
+width-passes n l u = rw (le-leb 1 n l, le-leb n maxWidth u)
+
+pub picks-passes : (n m : ℕ) → 1 ≤ m → m ≤ 8 → m ≤ n → (picks n m) .number ≡ 0
+picks-passes n m l u f = rw (le-leb 1 m l, le-leb m 8 u, le-leb m n f)
+
+pub head-passes : (n : ℕ) (h : Head) → start h < n → (head n h) .number ≡ 0
+head-passes n None l = refl
+head-passes n (At h) l = let below : h < n = omega (arith, RoundRobin.start-at h) in rw (lt-ltb h n below)
+
+pub allows : (s : State) → Allowed s → (state s) .number ≡ 0
+allows s a =
+    then-passed (width (s .width)) _ (width-passes (s .width) (a .some) (a .most))
+    (then-passed (picks (s .width) (s .picks)) _ (picks-passes (s .width) (s .picks) (a .picked) (a .few) (a .fit))
+    (head-passes (s .width) (s .head) (a .station)))
+
+pub writes : (s : State) (stated length : ℕ) → Allowed s → length ≡ stated → (write s stated length) .number ≡ 0
+writes s stated length a e = then-passed (state s) _ (allows s a) (rw (eq-eqb length stated e))

@@ -261,6 +261,13 @@ pub filter-none : (p : ℕ → Bool) (a k : ℕ) → ((i : ℕ) → a ≤ i → 
 filter-none p a zero h = refl
 filter-none p a (suc k) h = rw (h a (omega arith) (omega arith)) (filter-none p (suc a) k (λ i l u. h i (omega arith) (omega arith)))
 
+-- and the other way round
+pub none-of : (p : ℕ → Bool) (a k i : ℕ) → filter p (range a k) ≡ [] → a ≤ i → i < a + k → p i ≡ false
+none-of p a k i e l u =
+    let out : false ≡ (true && p i) =
+    ap (member i) (sym e) ∙ member-filter p i (range a k) ∙ rw (member-range i a k l u) in
+    sym out
+
 -- the first of a range that passes, with those that pass after it
 pub filter-first : (p : ℕ → Bool) (a k w : ℕ) → a ≤ w → w < a + k → ((i : ℕ) → a ≤ i → i < w → p i ≡ false) → p w ≡ true
     → filter p (range a k) ≡ w ∷ filter p (range (suc w) (a + k - suc w))
