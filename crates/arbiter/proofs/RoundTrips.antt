@@ -35,9 +35,11 @@ readable : (t : State) (h : Head) → (Questions.state t) .number ≡ 0 → star
 readable t h z l =
     let n = t .width in
     let bytes = OneHot.image n h in
-    Asked.then-passed (Questions.state t) _ z
-    (Asked.then-passed (Questions.readLength n (length bytes)) _ (rw (eq-eqb (length bytes) n (Image.image-length n h)))
-    (Asked.then-passed (Questions.bits 0 bytes) _ (rw (Image.image-bits n h)) (rw (Image.image-single n h l))))
+    Asked.then-passed _ (Questions.oneHot bytes)
+    (Asked.then-passed _ (Questions.bits 0 bytes)
+    (Asked.then-passed (Questions.state t) _ z (rw (eq-eqb (length bytes) n (Image.image-length n h))))
+    (rw (Image.image-bits n h)))
+    (rw (Image.image-single n h l))
 
 pub image-read-back : ImageReadBack
 image-read-back s t former z y w =
@@ -62,15 +64,14 @@ record Read (s : State) (bytes : List ℕ) : Type 0 where
 was-read : (s : State) (bytes : List ℕ) → (OneHot.questions s bytes) .number ≡ 0 → Read s bytes
 was-read s bytes z =
     let n = s .width in
-    let eight = Questions.bits 0 bytes then Questions.oneHot bytes in
-    let five = Questions.readLength n (length bytes) then eight in
-    let a = Asked.then-served (Questions.state s) five z in
-    let b = Asked.then-served (Questions.readLength n (length bytes)) eight (a .1) in
-    let c = Asked.then-served (Questions.bits 0 bytes) (Questions.oneHot bytes) (b .1) in
+    let five = Questions.state s then Questions.readLength n (length bytes) in
+    let c = Asked.then-served (five then Questions.bits 0 bytes) (Questions.oneHot bytes) z in
+    let b = Asked.then-served five (Questions.bits 0 bytes) (c .0) in
+    let a = Asked.then-served (Questions.state s) (Questions.readLength n (length bytes)) (b .0) in
     record {
       allowed = Asked.allowed s (a .0);
-      long = Asked.length-served 4 n (length bytes) (b .0);
-      bits = Asked.first-served 7 _ (c .0);
+      long = Asked.length-served 4 n (length bytes) (a .1);
+      bits = Asked.first-served 7 _ (b .1);
       single = Asked.first-served 9 _ (c .1);
     }
 
@@ -118,11 +119,14 @@ saved-readable s a =
     let bytes = Snapshot.saved s in
     let k = mark-saved (s .width) (s .picks) (s .head) in
     let same : Snapshot.held bytes ≡ s = held-saved (s .width) (s .picks) (s .head) (a .some) in
-    Asked.then-passed (Questions.readLength 4 (length bytes)) _ (rw (eq-eqb (length bytes) 4 (k .2)))
-    (Asked.then-passed (Questions.bits 3 bytes) _ (k .0)
-    (rw same
-    (Asked.then-passed (Questions.picks (s .width) (s .picks)) _ (Asked.picks-passes (s .width) (s .picks) (a .picked) (a .few) (a .fit))
-    (Asked.then-passed (Questions.head (s .width) (s .head)) _ (Asked.head-passes (s .width) (s .head) (a .station)) (k .1)))))
+    rw same
+    (Asked.then-passed _ (Snapshot.noStray bytes)
+    (Asked.then-passed _ (Questions.head (s .width) (s .head))
+    (Asked.then-passed _ (Questions.picks (s .width) (s .picks))
+    (Asked.then-passed (Questions.readLength 4 (length bytes)) _ (rw (eq-eqb (length bytes) 4 (k .2))) (k .0))
+    (Asked.picks-passes (s .width) (s .picks) (a .picked) (a .few) (a .fit)))
+    (Asked.head-passes (s .width) (s .head) (a .station)))
+    (k .1))
 
 pub snapshot-read-back : SnapshotReadBack
 snapshot-read-back s former z =

@@ -26,7 +26,7 @@ abbrev pub refuseAtFirst : ℕ → List ℕ → Verdict
 refuseAtFirst number [] = passed
 refuseAtFirst number (p ∷ ps) = record { number = number; place = p }
 
-infixr 20 _then_
+infixl 20 _then_
 -- one question after another: the first that refuses decides
 unfoldable pub _then_ : Verdict → Verdict → Verdict
 a then b = cond (eqb (a .number) 0) b a

@@ -42,23 +42,19 @@ impl State {
     }
 }
 
-// The questions of reading an image.
+// The questions of reading an image. The image is read last.
 fn readable(s: State, image: &[u8]) -> Verdict
     ensures { λ r. ⌜ r ≡ OneHot.questions s (now (image .entry)) ⌝ }
 {
     let by_state = question::state(s);
-    if by_state.number != refusal::SERVED {
-        return by_state;
-    }
     let by_length = question::read_length(s.width, image.len());
-    if by_length.number != refusal::SERVED {
-        return by_length;
+    let unread = by_state.then(by_length);
+    if unread.number != refusal::SERVED {
+        return unread;
     }
     let by_bits = question::bits(0, image);
-    if by_bits.number != refusal::SERVED {
-        return by_bits;
-    }
-    question::one_hot(image)
+    let by_ones = question::one_hot(image);
+    by_bits.then(by_ones)
 }
 
 // The place of the first 1 from `from` on, or none.

@@ -9,11 +9,24 @@ use rules::Head;
 ghost use mathlib.Core.Path.{_≡_};
 ghost use Rattle.arbiter.specs.Cycle as Cycle;
 ghost use Rattle.arbiter.specs.Questions as Questions;
+ghost use Rattle.arbiter.specs.Questions.{_then_};
 
 // What a question says: the number and the place of its refusal, both 0 where it does not refuse.
 pub struct Verdict {
     pub number: usize,
     pub place: usize,
+}
+
+impl Verdict {
+    // This verdict if it refuses, and else the next question's.
+    pub fn then(self, next: Verdict) -> Verdict
+        ensures { λ r. ⌜ r ≡ (self then next) ⌝ }
+    {
+        if self.number != refusal::SERVED {
+            return self;
+        }
+        next
+    }
 }
 
 // The verdict of a question with this number: yes passes, no refuses at a place.
@@ -104,16 +117,11 @@ pub(crate) fn one_hot(image: &[u8]) -> Verdict
 pub fn state(s: State) -> Verdict
     ensures { λ r. ⌜ r ≡ Questions.state s ⌝ }
 {
-    let by_width = width(s.width);
-    if by_width.number != refusal::SERVED {
-        return by_width;
-    }
-    let by_picks = picks(s.width, s.picks);
-    if by_picks.number != refusal::SERVED {
-        return by_picks;
-    }
     let h = s.head;
-    head(s.width, h)
+    let by_width = width(s.width);
+    let by_picks = picks(s.width, s.picks);
+    let by_head = head(s.width, h);
+    by_width.then(by_picks).then(by_head)
 }
 
 // Questions 1, 3, 4 and 6 of a call that writes what a state holds to a buffer.
@@ -121,28 +129,21 @@ pub(crate) fn write(s: State, stated: usize, length: usize) -> Verdict
     ensures { λ r. ⌜ r ≡ Questions.write s stated length ⌝ }
 {
     let by_state = state(s);
-    if by_state.number != refusal::SERVED {
-        return by_state;
-    }
-    write_length(stated, length)
+    let by_length = write_length(stated, length);
+    by_state.then(by_length)
 }
 
-// Questions 1, 3, 4, 5, 6 and 8 of a cycle of the plain scan or the thermometer arbiter, which has a grant buffer of `length`
-// bytes.
+// Questions 1, 3, 4, 5, 6 and 8 of a cycle of the plain scan or the thermometer arbiter, whose grant buffer has `length` bytes.
+// The requests are read last.
 pub fn cycle(s: State, requests: &[u8], length: usize) -> Verdict
     ensures { λ r. ⌜ r ≡ Cycle.questions s (now (requests .entry)) length ⌝ }
 {
     let by_state = state(s);
-    if by_state.number != refusal::SERVED {
-        return by_state;
-    }
     let by_requests = read_length(s.width, requests.len());
-    if by_requests.number != refusal::SERVED {
-        return by_requests;
-    }
     let by_grants = write_length(s.width, length);
-    if by_grants.number != refusal::SERVED {
-        return by_grants;
+    let unread = by_state.then(by_requests).then(by_grants);
+    if unread.number != refusal::SERVED {
+        return unread;
     }
     bits(0, requests)
 }

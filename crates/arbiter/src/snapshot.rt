@@ -55,21 +55,17 @@ fn readable(snapshot: &[u8]) -> Verdict
     if by_length.number != refusal::SERVED {
         return by_length;
     }
-    let by_mark = question::bits(3, snapshot);
-    if by_mark.number != refusal::SERVED {
-        return by_mark;
-    }
     let s = held(snapshot);
+    let h = s.head;
+    let by_mark = question::bits(3, snapshot);
     let by_picks = question::picks(s.width, s.picks);
-    if by_picks.number != refusal::SERVED {
-        return by_picks;
-    }
-    let head = s.head;
-    let by_head = question::head(s.width, head);
-    if by_head.number != refusal::SERVED {
-        return by_head;
-    }
-    question::refuse_unless((snapshot[3] == 1) | (snapshot[2] == 0), refusal::HEAD, 0)
+    let by_head = question::head(s.width, h);
+    let by_stray = question::refuse_unless(
+        (snapshot[3] == 1) | (snapshot[2] == 0),
+        refusal::HEAD,
+        0,
+    );
+    by_mark.then(by_picks).then(by_head).then(by_stray)
 }
 
 // The state that four bytes hold.

@@ -21,13 +21,13 @@ pub ready : {r : Verdict} (s : State) (requests : List ℕ) (size : ℕ) → r �
     → Ready s requests size
 ready s requests size e z =
     let n = s .width in
-    let six = Questions.writeLength n size then Questions.bits 0 requests in
-    let five = Questions.readLength n (length requests) then six in
-    let a = then-served (Questions.state s) five (ap (λ (v : Verdict). v .number) (sym e) ∙ z) in
-    let b = then-served (Questions.readLength n (length requests)) six (a .1) in
-    let c = then-served (Questions.writeLength n size) (Questions.bits 0 requests) (b .1) in
+    let five = Questions.state s then Questions.readLength n (length requests) in
+    let six = five then Questions.writeLength n size in
+    let c = then-served six (Questions.bits 0 requests) (ap (λ (v : Verdict). v .number) (sym e) ∙ z) in
+    let b = then-served five (Questions.writeLength n size) (c .0) in
+    let a = then-served (Questions.state s) (Questions.readLength n (length requests)) (b .0) in
     record {
       allows = allowed s (a .0);
-      asked = length-served 4 n (length requests) (b .0);
-      room = length-served 5 n size (c .0);
+      asked = length-served 4 n (length requests) (a .1);
+      room = length-served 5 n size (b .1);
     }

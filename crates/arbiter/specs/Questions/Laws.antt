@@ -30,6 +30,15 @@ pub passed : {a r b x : Verdict} → r ≡ a → r .number ≡ 0 → x ≡ b →
 unfolding _then_
 passed e z f = f ∙ sym (rw (← e, eq-eqb _ 0 z))
 
+-- a call that has the verdicts on both in hand
+pub chained : {a b x y r : Verdict} → r ≡ (x then y) → x ≡ a → y ≡ b → r ≡ (a then b)
+chained e f g = e ∙ rw (f, g)
+
+-- it does not matter which are taken together
+pub then-assoc : (a b c : Verdict) → (a then b then c) ≡ (a then (b then c))
+unfolding _then_
+then-assoc a b c = Lists.split (eqb (a .number) 0) (λ e. rw e) (λ e. rw (e, e))
+
 -- where no question refuses, neither the first does nor any after it
 pub then-served : (a b : Verdict) → (a then b) .number ≡ 0 → (a .number ≡ 0) × (b .number ≡ 0)
 unfolding _then_
@@ -107,11 +116,10 @@ length-served k stated length z = eqb-true length stated (unless-served _ k 0 z)
 
 pub allowed : (s : State) → (state s) .number ≡ 0 → Allowed s
 allowed s z =
-    let rest = picks (s .width) (s .picks) then head (s .width) (s .head) in
-    let one = then-served (width (s .width)) rest z in
-    let two = then-served (picks (s .width) (s .picks)) (head (s .width) (s .head)) (one .1) in
+    let two = then-served (width (s .width) then picks (s .width) (s .picks)) (head (s .width) (s .head)) z in
+    let one = then-served (width (s .width)) (picks (s .width) (s .picks)) (two .0) in
     let w = width-served (s .width) (one .0) in
-    let p = picks-served (s .width) (s .picks) (two .0) in
+    let p = picks-served (s .width) (s .picks) (one .1) in
     record {
       some = w .0;
       most = w .1;
@@ -144,9 +152,10 @@ head-passes n (At h) l = let below : h < n = omega (arith, RoundRobin.start-at h
 
 pub allows : (s : State) → Allowed s → (state s) .number ≡ 0
 allows s a =
-    then-passed (width (s .width)) _ (width-passes (s .width) (a .some) (a .most))
-    (then-passed (picks (s .width) (s .picks)) _ (picks-passes (s .width) (s .picks) (a .picked) (a .few) (a .fit))
-    (head-passes (s .width) (s .head) (a .station)))
+    then-passed _ (head (s .width) (s .head))
+    (then-passed (width (s .width)) _ (width-passes (s .width) (a .some) (a .most))
+    (picks-passes (s .width) (s .picks) (a .picked) (a .few) (a .fit)))
+    (head-passes (s .width) (s .head) (a .station))
 
 pub writes : (s : State) (stated length : ℕ) → Allowed s → length ≡ stated → (write s stated length) .number ≡ 0
 writes s stated length a e = then-passed (state s) _ (allows s a) (rw (eq-eqb length stated e))

@@ -37,20 +37,20 @@ pub record Readable (bytes : List ℕ) : Type 0 where
 pub readable : {r : Verdict} (bytes : List ℕ) → r ≡ questions bytes → r .number ≡ 0 → Readable bytes
 readable bytes e z =
     let w = held bytes .width in
-    let four = Questions.head w (held bytes .head) then noStray bytes in
-    let three = Questions.picks w (held bytes .picks) then four in
-    let eight = Questions.bits 3 bytes then three in
-    let a = then-served (Questions.readLength 4 (length bytes)) eight (ap (λ (v : Verdict). v .number) (sym e) ∙ z) in
-    let b = then-served (Questions.bits 3 bytes) three (a .1) in
-    let c = then-served (Questions.picks w (held bytes .picks)) four (b .1) in
-    let d = then-served (Questions.head w (held bytes .head)) (noStray bytes) (c .1) in
-    let p = picks-served w (held bytes .picks) (c .0) in
+    let eight = Questions.readLength 4 (length bytes) then Questions.bits 3 bytes in
+    let three = eight then Questions.picks w (held bytes .picks) in
+    let four = three then Questions.head w (held bytes .head) in
+    let d = then-served four (noStray bytes) (ap (λ (v : Verdict). v .number) (sym e) ∙ z) in
+    let c = then-served three (Questions.head w (held bytes .head)) (d .0) in
+    let b = then-served eight (Questions.picks w (held bytes .picks)) (c .0) in
+    let a = then-served (Questions.readLength 4 (length bytes)) (Questions.bits 3 bytes) (b .0) in
+    let p = picks-served w (held bytes .picks) (b .1) in
     record {
       long = length-served 4 4 (length bytes) (a .0);
-      mark = b .0;
+      mark = a .1;
       picked = p .0;
       few = p .1;
       fit = p .2;
-      station = head-served w (held bytes .head) (omega arith) (d .0);
+      station = head-served w (held bytes .head) (omega arith) (c .1);
       clean = unless-served _ 3 0 (d .1);
     }

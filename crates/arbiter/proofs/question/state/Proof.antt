@@ -1,28 +1,32 @@
--- `state` meets its contract.
+-- `state` meets its contract: the questions in their order.
 -- Assumes nothing.
 use borrow.Author.Needs.{needs}
-use Rattle.arbiter.specs.Questions.Laws.{refused, passed}
+use Rattle.arbiter.specs.Questions.Laws.{chained}
 use Rattle.arbiter.proofs.question.state.Statement.{statement}
 use Rattle.arbiter.proofs.question.state.Tie as tie
 
 width-requires : tie.Need-width-requires
 width-requires c κs = search needs
 
-returns : tie.Need-returns
-returns c = refused _ (c .before .before .width .ensures) (c .if1 .taken)
-
 picks-requires : tie.Need-picks-requires
 picks-requires c κs = search needs
-
-returns-2 : tie.Need-returns-2
-returns-2 c = let b = c .before .before .before in passed (b .before .before .width .ensures) (b .if1 .left) (refused _ (c .before .before .picks .ensures) (c .if2 .taken))
 
 head-requires : tie.Need-head-requires
 head-requires c κs = search needs
 
-returns-3 : tie.Need-returns-3
-returns-3 c = let p = c .before .before .before in let w = p .before .before .before in passed (w .width .ensures) (p .before .if1 .left) (passed (p .picks .ensures) (c .before .if2 .left) (c .head .ensures))
+then-requires : tie.Need-then-requires
+then-requires c κs = search needs
+
+then-requires-2 : tie.Need-then-requires-2
+then-requires-2 c κs = search needs
+
+returns : tie.Need-returns
+returns c =
+    let h = c .before .before in
+    let p = h .before in
+    chained (c .then2 .ensures) (chained (c .before .then .ensures) (p .before .width .ensures) (p .picks .ensures)) (h .head .ensures)
 
 pub state-spec : {M : Type 1} → statement M
 state-spec =
-    tie.close (tie.spec width-requires returns picks-requires returns-2 head-requires returns-3)
+    tie.close
+    (tie.spec width-requires picks-requires head-requires then-requires then-requires-2 returns)
