@@ -118,11 +118,13 @@ fn next_head(s: State, walk: Walk) -> Head
     ensures { λ r. ⌜ r ≡ nextHead (s .width) (s .head) walk ⌝ }
 {
     if walk.count != 0 {
-        return Head::At((walk.last + 1) % s.width);
+        let next = (walk.last + 1) % s.width;
+        return Head::At(next);
     }
+    let end = s.width - 1;
     let head = s.head;
     match head {
-        Head::None => Head::At(s.width - 1),
+        Head::None => Head::At(end),
         Head::At(h) => Head::At(h),
     }
 }
