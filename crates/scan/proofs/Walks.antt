@@ -19,7 +19,7 @@ use Rattle.rules.specs.RoundRobin.Laws as RoundRobin
 use Rattle.arbiter.specs.declared.State.{State}
 use Rattle.arbiter.specs.Cycle.{asking}
 use Rattle.scan.specs.declared.Walk.{Walk}
-use Rattle.scan.specs.Walks.{wired, reached, Ran, Walked, idle, nextHead}
+use Rattle.scan.specs.Walks.{reached, Ran, Walked, idle, nextHead}
 
 -- counting one station more
 count-next : (p : ℕ → Bool) (from i : ℕ) → from ≤ i → count p (range from (i + 1 - from)) ≡ count p (range from (i - from)) + bit (p i)
@@ -42,13 +42,13 @@ count-more p from i to l u =
       Lists.count-append p (range from (i - from)) (range (from + (i - from)) (to - i)),
     )
 
-module _ (requests : List ℕ) (picks from : ℕ) (walk : Walk) (old : List ℕ) where
+module _ (s : State) (requests : List ℕ) (from : ℕ) (walk : Walk) (old : List ℕ) where
   -- before its first station
-  pub begin : walk .count ≤ picks → Ran requests picks from from walk old walk old
+  pub begin : walk .count ≤ s .picks → Ran s requests from from walk old walk old
   begin l =
       let none : from - from ≡ 0 = omega arith in
       record {
-        counted = omega (arith, ap (λ (k : ℕ). count (wired requests) (range from k)) none);
+        counted = omega (arith, ap (λ (k : ℕ). count (asking s requests) (range from k)) none);
         here = λ w a b. absurd (omega arith);
         below = λ w a. refl;
         above = λ w a. refl;
@@ -57,12 +57,12 @@ module _ (requests : List ℕ) (picks from : ℕ) (walk : Walk) (old : List ℕ)
         some = λ a. absurd (omega arith);
       }
 
-  module _ (i : ℕ) (at : from ≤ i) (now : Walk) (new : List ℕ) (r : Ran requests picks from i walk old now new) where
+  module _ (i : ℕ) (at : from ≤ i) (now : Walk) (new : List ℕ) (r : Ran s requests from i walk old now new) where
     -- past a station that does not ask
-    pub skip : wired requests i ≡ false → Ran requests picks from (i + 1) walk old now new
+    pub skip : asking s requests i ≡ false → Ran s requests from (i + 1) walk old now new
     skip f =
         record {
-          counted = omega (arith, r .counted, count-next (wired requests) from i at, ap bit f);
+          counted = omega (arith, r .counted, count-next (asking s requests) from i at, ap bit f);
           here =
               λ w a b.
               Lists.split (eqb w i)
@@ -76,18 +76,18 @@ module _ (requests : List ℕ) (picks from : ℕ) (walk : Walk) (old : List ℕ)
         }
 
     -- past a station that asks and is granted
-    pub grant : wired requests i ≡ true → now .count < picks → i < length new
-        → Ran requests picks from (i + 1) walk old (record { count = now .count + 1; last = i }) (set new i 1)
+    pub grant : asking s requests i ≡ true → now .count < s .picks → i < length new
+        → Ran s requests from (i + 1) walk old (record { count = now .count + 1; last = i }) (set new i 1)
     grant t free fits =
-        let whole : now .count ≡ reached requests from i walk = omega (arith, r .counted) in
+        let whole : now .count ≡ reached s requests from i walk = omega (arith, r .counted) in
         record {
-          counted = omega (arith, count-next (wired requests) from i at, ap bit t);
+          counted = omega (arith, count-next (asking s requests) from i at, ap bit t);
           here =
               λ w a b.
               Lists.split (eqb w i)
               (λ e.
               let same : w ≡ i = eqb-true w i e in
-              let below : ltb (reached requests from i walk) picks ≡ true = lt-ltb _ picks (omega arith) in
+              let below : ltb (reached s requests from i walk) (s .picks) ≡ true = lt-ltb _ (s .picks) (omega arith) in
               rw (same, t, below) (getD-set-same new i 1 0 fits))
               (λ e. getD-set-other new i w 1 0 (eqb-false w i e) ∙ r .here w a (omega (arith, eqb-false w i e)));
           below = λ w a. getD-set-other new i w 1 0 (λ e. omega arith) ∙ r .below w a;
@@ -98,19 +98,19 @@ module _ (requests : List ℕ) (picks from : ℕ) (walk : Walk) (old : List ℕ)
         }
 
     -- once the picks are used up, the rest of the run changes nothing
-    pub full : (to : ℕ) → i ≤ to → now .count ≡ picks → Ran requests picks from to walk old now new
+    pub full : (to : ℕ) → i ≤ to → now .count ≡ s .picks → Ran s requests from to walk old now new
     full to u e =
         record {
-          counted = omega (arith, r .counted, count-more (wired requests) from i to at u);
+          counted = omega (arith, r .counted, count-more (asking s requests) from i to at u);
           here =
               λ w a b.
               Lists.split (ltb w i)
               (λ t. r .here w a (ltb-true w i t))
               (λ f.
               let past : i ≤ w = ltb-false w i f in
-              let over : ltb (reached requests from w walk) picks ≡ false =
-              le-ltb (reached requests from w walk) picks (omega (arith, r .counted, count-more (wired requests) from i w at past)) in
-              rw (over, and-false (wired requests w)) (r .above w past));
+              let over : ltb (reached s requests from w walk) (s .picks) ≡ false =
+              le-ltb (reached s requests from w walk) (s .picks) (omega (arith, r .counted, count-more (asking s requests) from i w at past)) in
+              rw (over, and-false (asking s requests w)) (r .above w past));
           below = r .below;
           above = λ w a. r .above w (omega arith);
           long = r .long;
@@ -135,8 +135,8 @@ abbrev pub begun : Walk
 begun = record { count = 0; last = 0 }
 
 module _ (s : State) (requests : List ℕ) (station : start (s .head) < s .width) (half done : Walk) (mid new : List ℕ)
-    (one : Ran requests (s .picks) (start (s .head)) (s .width) begun (replicate (s .width) 0) half mid)
-    (two : Ran requests (s .picks) 0 (start (s .head)) half mid done new) where
+    (one : Ran s requests (start (s .head)) (s .width) begun (replicate (s .width) 0) half mid)
+    (two : Ran s requests 0 (start (s .head)) half mid done new) where
   abbrev n : ℕ
   n = s .width
 
@@ -175,9 +175,9 @@ module _ (s : State) (requests : List ℕ) (station : start (s .head) < s .width
   high : (w : ℕ) → f ≤ w → w < n → getD new w 0 ≡ bit (asks w && ltb (count asks (before w (order n (s .head)))) m)
   high w l u =
       let was : getD {A = ℕ} (replicate n 0) w 0 ≡ 0 = getD-replicate n w 0 0 u in
-      let so : ltb (reached requests f w begun) m ≡ ltb (count asks (before w (order n (s .head)))) m =
+      let so : ltb (reached s requests f w begun) m ≡ ltb (count asks (before w (order n (s .head)))) m =
       rw (RoundRobin.before-high n (s .head) w l u, zero-add) in
-      two .above w l ∙ one .here w l u ∙ cond-bit (asks w && ltb (reached requests f w begun) m) _ was ∙ rw so
+      two .above w l ∙ one .here w l u ∙ cond-bit (asks w && ltb (reached s requests f w begun) m) _ was ∙ rw so
 
   -- a station of the second run
   low : (w : ℕ) → w < f → getD new w 0 ≡ bit (asks w && ltb (count asks (before w (order n (s .head)))) m)
@@ -186,9 +186,9 @@ module _ (s : State) (requests : List ℕ) (station : start (s .head) < s .width
       let all : w - 0 ≡ w = omega arith in
       let sum : many + count asks (range 0 w) ≡ count asks (before w (order n (s .head))) =
       sym (ap (count asks) (RoundRobin.before-low n (s .head) w l) ∙ Lists.count-append asks (range f (n - f)) (range 0 w)) in
-      let so : ltb (reached requests 0 w half) m ≡ ltb (count asks (before w (order n (s .head)))) m =
+      let so : ltb (reached s requests 0 w half) m ≡ ltb (count asks (before w (order n (s .head)))) m =
       cut-below (half .count) many m (count asks (range 0 (w - 0))) half-count ∙ rw (all, sum) in
-      two .here w (omega arith) l ∙ cond-bit (asks w && ltb (reached requests 0 w half) m) _ was ∙ rw so
+      two .here w (omega arith) l ∙ cond-bit (asks w && ltb (reached s requests 0 w half) m) _ was ∙ rw so
 
   bytes : new ≡ grants n m (s .head) asks
   bytes =

@@ -14,25 +14,22 @@ use Rattle.arbiter.specs.declared.State.{State}
 use Rattle.arbiter.specs.Cycle.{asking, granting}
 use Rattle.scan.specs.declared.Walk.{Walk}
 
--- station w asks
-abbrev pub wired : List ℕ → ℕ → Bool
-wired requests w = eqb (getD requests w 0) 1
+-- how many are granted when a run from one station comes to w, if the picks are not used up
+abbrev pub reached : State → List ℕ → ℕ → ℕ → Walk → ℕ
+reached s requests from w walk = walk .count + count (asking s requests) (range from (w - from))
 
--- how many have been granted, or would have been without a limit, when a run from one station comes to w
-abbrev pub reached : List ℕ → ℕ → ℕ → Walk → ℕ
-reached requests from w walk = walk .count + count (wired requests) (range from (w - from))
-
--- a run from one station up to another, with the walk and the grant buffer before and after it
-pub record Ran (requests : List ℕ) (picks from to : ℕ) (walk : Walk) (old : List ℕ) (now : Walk) (new : List ℕ) : Type 0 where
-  pub counted : now .count ≡ min picks (reached requests from to walk)
+-- a run from one station up to another: the walk and the grant buffer before it, and those after it
+pub record Ran (s : State) (requests : List ℕ) (from to : ℕ) (walk : Walk) (old : List ℕ) (now : Walk) (new : List ℕ) : Type 0 where
+  pub counted : now .count ≡ min (s .picks) (reached s requests from to walk)
   pub here : (w : ℕ) → from ≤ w → w < to
-      → getD new w 0 ≡ cond (wired requests w && ltb (reached requests from w walk) picks) 1 (getD old w 0)
+      → getD new w 0 ≡ cond (asking s requests w && ltb (reached s requests from w walk) (s .picks)) 1 (getD old w 0)
   pub below : (w : ℕ) → w < from → getD new w 0 ≡ getD old w 0
   pub above : (w : ℕ) → to ≤ w → getD new w 0 ≡ getD old w 0
   pub long : length new ≡ length old
   pub none : now .count ≡ walk .count → now .last ≡ walk .last
   pub some : walk .count < now .count
-      → (from ≤ now .last) × (now .last < to) × (wired requests (now .last) ≡ true) × (suc (reached requests from (now .last) walk) ≡ now .count)
+      → (from ≤ now .last) × (now .last < to) × (asking s requests (now .last) ≡ true)
+      × (suc (reached s requests from (now .last) walk) ≡ now .count)
 
 -- a walk once round
 pub record Walked (s : State) (requests : List ℕ) (walk : Walk) (new : List ℕ) : Type 0 where

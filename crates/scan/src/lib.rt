@@ -63,30 +63,31 @@ fn walk_round(s: State, requests: &[u8], grants: &mut [u8]) -> Walk
 {
     let first = first_station(s);
     let begun = Walk { count: 0, last: 0 };
-    let half = walk_run(requests, grants, first, s.width, s.picks, begun);
-    walk_run(requests, grants, 0, first, s.picks, half)
+    let half = walk_run(s, requests, grants, first, s.width, begun);
+    walk_run(s, requests, grants, 0, first, half)
 }
 
-// Grants those that ask of the stations from `from` up to `to`, in that order, until `picks` are granted with those before.
+// Grants those that ask of the stations from `from` up to `to`, in that order, until the picks are used up. `walk` is how far
+// the walk has come before, and the result how far it has come then.
 fn walk_run(
+    s: State,
     requests: &[u8],
     grants: &mut [u8],
     from: usize,
     to: usize,
-    picks: usize,
     walk: Walk,
 ) -> Walk
     requires { ⌜ from ≤ to ⌝ }
     requires { ⌜ to ≤ length (now requests) ⌝ }
     requires { ⌜ to ≤ length (now grants) ⌝ }
-    requires { ⌜ walk .count ≤ picks ⌝ }
-    ensures { λ r. ⌜ Ran (now (requests .entry)) picks from to walk (now (grants .entry)) r (now (grants .exit)) ⌝ }
+    requires { ⌜ walk .count ≤ s .picks ⌝ }
+    ensures { λ r. ⌜ Ran s (now (requests .entry)) from to walk (now (grants .entry)) r (now (grants .exit)) ⌝ }
 {
     let mut count = walk.count;
     let mut last = walk.last;
     let mut i = from;
     while i < to {
-        if count == picks {
+        if count == s.picks {
             return Walk { count, last };
         }
         if requests[i] == 1 {

@@ -24,7 +24,7 @@ walk-run-requires-2 c κs =
     omega (
       arith,
       r .before .before .first-station .ensures,
-      r .walk-run .kept .1 .0,
+      r .walk-run .kept .1 .1 .0,
       r .walk-run .ensures .counted,
       ap length (b .pre .1 .1),
       length-replicate {A = ℕ} (b .args .s .width) 0,
@@ -40,7 +40,7 @@ returns c =
     let b = one .before .before .before .before .before in
     let e = one .before .before .first-station .ensures in
     Walks.round (b .args .s) (b .args .requests .now) (b .pre .0) (one .walk-run .result) (two .walk-run2 .result)
-    (one .walk-run .last .1 .0) (two .walk-run2 .last .1 .0) (rw (e, b .pre .1 .1) at (one .walk-run .ensures))
+    (one .walk-run .last .1 .1 .0) (two .walk-run2 .last .1 .1 .0) (rw (e, b .pre .1 .1) at (one .walk-run .ensures))
     (rw e at (two .walk-run2 .ensures))
 
 pub walk-round-spec : {M : Type 1} → statement M

@@ -12,12 +12,12 @@ use Rattle.scan.proofs.walk_run.Statement.{statement}
 use Rattle.scan.proofs.walk_run.Tie as tie
 
 abbrev Inv-loop : tie.InvT-loop
-Inv-loop requests grants₀ from to picks count₀ last₀ i₀ grants count last i =
+Inv-loop s requests grants₀ from to count₀ last₀ i₀ grants count last i =
     (from ≤ i) × (i ≤ to) × (length grants ≡ length grants₀)
-    × Ran requests picks from i (record { count = count₀; last = last₀ }) grants₀ (record { count = count; last = last }) grants
+    × Ran s requests from i (record { count = count₀; last = last₀ }) grants₀ (record { count = count; last = last }) grants
 
 abbrev μ-loop : tie.MeasureT-loop
-μ-loop requests grants₀ from to picks count₀ last₀ i₀ grants count last i = to - i
+μ-loop s requests grants₀ from to count₀ last₀ i₀ grants count last i = to - i
 
 loop-holds : tie.Need-loop-holds Inv-loop μ-loop
 loop-holds c = (omega arith, omega arith, omega arith, Walks.begin _ _ _ _ _ (omega arith))
@@ -26,7 +26,7 @@ same-length : tie.Need-same-length Inv-loop μ-loop
 same-length c = omega arith
 
 returns : tie.Need-returns Inv-loop μ-loop
-returns c = let l = c .before .before .loop in Walks.full _ _ _ _ _ (l .i) (l .inv .0) _ _ (l .inv .3) _ (omega arith) (c .if1 .taken)
+returns c = let l = c .before .before .before .loop in Walks.full _ _ _ _ _ (l .i) (l .inv .0) _ _ (l .inv .3) _ (omega arith) (c .if1 .taken)
 
 shared-slice-read-if2 : tie.Need-shared-slice-read-if2 Inv-loop μ-loop
 shared-slice-read-if2 c = omega arith
@@ -35,7 +35,7 @@ slice-write-grants : tie.Need-slice-write-grants Inv-loop μ-loop
 slice-write-grants c = omega arith
 
 add-count : tie.Need-add-count Inv-loop μ-loop
-add-count c = omega (arith, c .before .before .before .before .loop .inv .3 .counted)
+add-count c = omega (arith, c .before .before .before .before .before .loop .inv .3 .counted)
 
 add-i : tie.Need-add-i Inv-loop μ-loop
 add-i c = omega arith
@@ -45,7 +45,7 @@ loop-less c = omega arith
 
 loop-again : tie.Need-loop-again Inv-loop μ-loop
 loop-again c =
-    let l = c .before .before .before .before .loop in
+    let l = c .before .before .before .before .before .loop in
     ⊎-elim
     (λ w.
     rw (w .1, w .2, w .3) (
