@@ -32,5 +32,5 @@ SnapshotReadBack =
 -- the state that a snapshot gave has that snapshot; a snapshot's numbers are bytes
 abbrev pub SnapshotWrittenBack : Type 0
 SnapshotWrittenBack =
-    (bytes former : List ℕ) → ((i : ℕ) → getD bytes i 0 < 256) → (Snapshot.read bytes) .number ≡ 0 → length former ≡ 4
+    (bytes former : List ℕ) → ((i : ℕ) → getD bytes i 0 < 256) → (Snapshot.read bytes) .number ≡ 0 → length former ≡ Snapshot.size
     → let s = (Snapshot.read bytes) .state in Snapshot.write s former ≡ record { answer = served 0 s; written = bytes }

@@ -15,6 +15,10 @@ use Rattle.arbiter.specs.Questions.{_then_}
 use Rattle.arbiter.specs.Answers.{Outcome, served, opened, writes}
 pub mod Laws
 
+-- how long one is
+abbrev pub size : ℕ
+size = 4
+
 -- the head's two bytes: "the head, or 0 for none; 1 if there is a head, else 0"
 abbrev pub headBytes : Head → List ℕ
 headBytes None = 0 ∷ 0 ∷ []
@@ -40,7 +44,7 @@ noStray bytes = Questions.refuseUnless (eqb (getD bytes 3 0) 1 || eqb (getD byte
 -- the questions of reading one: "5, then 8 of byte 3 alone (place 3), then 3, then 4"
 abbrev pub questions : List ℕ → Verdict
 questions bytes =
-    Questions.readLength 4 (length bytes)
+    Questions.readLength size (length bytes)
     then Questions.bits 3 bytes
     then Questions.picks (held bytes .width) (held bytes .picks)
     then Questions.head (held bytes .width) (held bytes .head)
@@ -52,4 +56,4 @@ read bytes = opened (questions bytes) (held bytes)
 
 -- writing one
 abbrev pub write : State → List ℕ → Outcome
-write s former = writes (Questions.write s 4 (length former)) s (served 0 s) (saved s) former
+write s former = writes (Questions.write s size (length former)) s (served 0 s) (saved s) former

@@ -16,6 +16,9 @@ pub const MAX_WIDTH: usize = 256;
 
 pub const MAX_PICKS: usize = 8;
 
+// How long a snapshot is.
+pub const SNAPSHOT_LENGTH: usize = 4;
+
 // 01's state: the number of stations, the most grants in one cycle, and the head.
 pub struct State {
     pub width: usize,

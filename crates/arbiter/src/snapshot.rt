@@ -1,5 +1,6 @@
 // The snapshot of a state, 01's saved form: four bytes, the width less one, the picks, the head or 0, and 1 if there is a head.
 use crate::Answer;
+use crate::SNAPSHOT_LENGTH;
 use crate::State;
 use crate::question;
 use crate::question::Verdict;
@@ -8,9 +9,6 @@ use rules::Head;
 ghost use mathlib.Core.Path.{_≡_};
 ghost use lib.ListN.{length};
 ghost use Rattle.arbiter.specs.Snapshot as Snapshot;
-
-// How long a snapshot is.
-pub const SNAPSHOT_LENGTH: usize = 4;
 
 impl State {
     // Writes the snapshot of this state. Asks 1, 3, 4 and 6.

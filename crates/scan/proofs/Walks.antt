@@ -17,6 +17,7 @@ use Rattle.rules.specs.Lists.Laws as Lists
 use Rattle.rules.specs.RoundRobin.{start, order, granted, grants, next}
 use Rattle.rules.specs.RoundRobin.Laws as RoundRobin
 use Rattle.arbiter.specs.declared.State.{State}
+use Rattle.arbiter.specs.Answers.{served}
 use Rattle.arbiter.specs.Cycle.{asking}
 use Rattle.scan.specs.declared.Walk.{Walk}
 use Rattle.scan.specs.Walks.{reached, Ran, Walked, idle, nextHead}
@@ -133,6 +134,11 @@ cond-bit false x e = e
 -- no walk yet
 abbrev pub begun : Walk
 begun = record { count = 0; last = 0 }
+
+-- a run is told by where it begins and ends, and by the buffer before it
+pub told : {s : State} {requests : List ℕ} {from to a b : ℕ} {walk now : Walk} {old was new : List ℕ} → from ≡ a → to ≡ b
+    → old ≡ was → Ran s requests from to walk old now new → Ran s requests a b walk was now new
+told e f g r = rw (e, f, g) at r
 
 module _ (s : State) (requests : List ℕ) (station : start (s .head) < s .width) (half done : Walk) (mid new : List ℕ)
     (one : Ran s requests (start (s .head)) (s .width) begun (replicate (s .width) 0) half mid)
@@ -277,3 +283,7 @@ next-is s requests walk new w =
     Lists.empty _ (sym (w .counted) ∙ eqb-true (walk .count) 0 e) in
     rw e (idle-next (s .width) (s .picks) (s .head) (asking s requests) none))
     (λ e. rw e (sym (w .final (omega (arith, eqb-false (walk .count) 0 e)))))
+
+-- equal counts and equal states make equal answers
+pub answer-is : {k l : ℕ} {s t : State} → k ≡ l → s ≡ t → served k s ≡ served l t
+answer-is e f = rw (e, f)

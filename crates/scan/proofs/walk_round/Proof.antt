@@ -1,7 +1,7 @@
 -- `walk_round` meets its contract: two runs are one walk round.
 -- Assumes nothing.
 use Prim.Native.Nat.{ℕ}
-use mathlib.Core.Path.{ap}
+use mathlib.Core.Path.{refl, ap}
 use native.Mathlib.Omega.{arith}
 use lib.ListN.{length, length-replicate}
 use borrow.Author.Needs.{needs}
@@ -40,8 +40,8 @@ returns c =
     let b = one .before .before .before .before .before in
     let e = one .before .before .first-station .ensures in
     Walks.round (b .args .s) (b .args .requests .now) (b .pre .0) (one .walk-run .result) (two .walk-run2 .result)
-    (one .walk-run .last .1 .1 .0) (two .walk-run2 .last .1 .1 .0) (rw (e, b .pre .1 .1) at (one .walk-run .ensures))
-    (rw e at (two .walk-run2 .ensures))
+    (one .walk-run .last .1 .1 .0) (two .walk-run2 .last .1 .1 .0) (Walks.told e refl (b .pre .1 .1) (one .walk-run .ensures))
+    (Walks.told refl e refl (two .walk-run2 .ensures))
 
 pub walk-round-spec : {M : Type 1} → statement M
 walk-round-spec =

@@ -4,6 +4,7 @@ use mathlib.Core.Path.{_≡_, ap, _∙_}
 use native.Mathlib.Omega.{arith}
 use lib.ListN.{length, replicate}
 use borrow.Author.Needs.{needs}
+use Rattle.arbiter.specs.Answers.{moved}
 use Rattle.arbiter.specs.Answers.Laws.{written, unwritten}
 use Rattle.arbiter.specs.Cycle.Laws.{Ready, ready}
 use Rattle.scan.proofs.Walks as Walks
@@ -51,10 +52,12 @@ returns-2 c =
     let w = h .before .before .before in
     let e = w .before .before .before .before .before .before in
     let a = e .before .before .before .before .before .before .args in
-    let next = h .next-head .ensures ∙ Walks.next-is (a .self .0) (a .requests .now) (w .walk-round .result) _ (w .walk-round .ensures) in
+    let s = a .self .0 in
+    let r = w .walk-round .ensures in
+    let next = h .next-head .ensures ∙ Walks.next-is s (a .requests .now) (w .walk-round .result) _ r in
     written _ _ (e .before .before .cycle .ensures) (e .if1 .left)
-    (c .served .ensures ∙ rw (c .before .moved .ensures, next, w .walk-round .ensures .counted))
-    (w .walk-round .ensures .grants)
+    (c .served .ensures ∙ Walks.answer-is (r .counted) (c .before .moved .ensures ∙ ap (moved s) next))
+    (r .grants)
 
 pub cycle-spec : {M : Type 1} → statement M
 cycle-spec =
