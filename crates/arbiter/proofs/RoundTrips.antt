@@ -2,12 +2,12 @@
 -- Assumes nothing.
 use Prim.Native.Nat.{ℕ, _+_, _-_, _≤_, _<_}
 use mathlib.Core.Path.{_≡_, refl, sym, ap, _∙_}
-use mathlib.Core.Bool.{Bool, true, false, cond, _||_}
+use mathlib.Core.Bool.{true, false, _||_}
 use mathlib.Core.List.{List, [], _∷_}
 use native.Mathlib.Omega.{arith}
 use lib.Dec.{eqb, ltb}
 use lib.ListN.{length, getD, drop}
-use borrow.Author.Tests.{eq-eqb, eqb-true, eqb-false, ltb-true, ltb-false}
+use borrow.Author.Tests.{eq-eqb, eqb-true, eqb-false, ltb-false}
 use Rattle.rules.specs.declared.Head.{Head}
 use Rattle.rules.specs.declared.Head.the-variants.{None, At}
 use Rattle.rules.specs.Lists.Laws as Lists
@@ -15,13 +15,12 @@ use Rattle.rules.specs.RoundRobin.{start}
 use Rattle.rules.specs.RoundRobin.Laws.{start-none, start-at}
 use Rattle.arbiter.specs.declared.Answer.{Answer}
 use Rattle.arbiter.specs.declared.State.{State}
-use Rattle.arbiter.specs.declared.question.Verdict.{Verdict}
-use Rattle.arbiter.specs.Places.{places, ones, first}
+use Rattle.arbiter.specs.Places.{places, ones}
 use Rattle.arbiter.specs.Places.Laws.{Free, free-of, found}
 use Rattle.arbiter.specs.Questions as Questions
 use Rattle.arbiter.specs.Questions.{_then_}
 use Rattle.arbiter.specs.Questions.Laws as Asked
-use Rattle.arbiter.specs.Answers.{moved, nothing, served, refused, opened}
+use Rattle.arbiter.specs.Answers.{moved, nothing, served, refused}
 use Rattle.arbiter.specs.Answers.Laws as Answers
 use Rattle.arbiter.specs.OneHot as OneHot
 use Rattle.arbiter.specs.OneHot.Laws as Image

@@ -1,7 +1,7 @@
 -- The states and answers that calls return: 01, "Questions each call asks", its last paragraph.
 -- Assumes nothing.
 use Prim.Native.Nat.{ℕ}
-use mathlib.Core.Bool.{Bool, cond}
+use mathlib.Core.Bool.{cond}
 use mathlib.Core.List.{List}
 use lib.Dec.{eqb}
 use Rattle.rules.specs.declared.Head.{Head}

@@ -6,7 +6,7 @@ use arbiter::question;
 use arbiter::refusal;
 use rules::Head;
 ghost use mathlib.Core.Path.{_≡_};
-ghost use Prim.Native.Nat.{ℕ, _≤_, _<_};
+ghost use Prim.Native.Nat.{_≤_, _<_};
 ghost use lib.ListN.{length, replicate};
 ghost use Rattle.rules.specs.RoundRobin.{start};
 ghost use Rattle.arbiter.specs.Cycle as Cycle;

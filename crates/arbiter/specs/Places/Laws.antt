@@ -1,15 +1,14 @@
 -- Laws of places: how a search finds the first.
 -- Assumes nothing.
 use Prim.Native.Nat.{ℕ, suc, _+_, _-_, _≤_, _<_}
-use mathlib.Core.Path.{_≡_, refl, sym, ap, _∙_}
+use mathlib.Core.Path.{_≡_, refl, ap, _∙_}
 use mathlib.Core.Bool.{Bool, true, false}
 use mathlib.Core.List.{List, [], _∷_}
 use native.Mathlib.Omega.{arith}
 use lib.Dec.{eqb}
 use lib.ListN.{length, getD}
 use borrow.Author.Tests.{eqb-true, eqb-false}
-use Rattle.rules.specs.declared.Head.the-variants.{None, At}
-use Rattle.rules.specs.Lists.{range, filter}
+use Rattle.rules.specs.declared.Head.the-variants.{At}
 use Rattle.rules.specs.Lists.Laws as Lists
 use Rattle.arbiter.specs.Places.{places, first}
 

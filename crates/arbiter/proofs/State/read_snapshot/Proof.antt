@@ -1,8 +1,7 @@
 -- `read_snapshot` meets its contract.
 -- Assumes nothing.
-use mathlib.Core.Path.{_≡_, sym, ap, _∙_}
+use mathlib.Core.Path.{ap, _∙_}
 use borrow.Author.Needs.{needs}
-use Rattle.arbiter.specs.declared.question.Verdict.{Verdict}
 use Rattle.arbiter.specs.Answers.{served, refused}
 use Rattle.arbiter.specs.Answers.Laws.{if-passed, if-refused, refusal}
 use Rattle.arbiter.specs.Snapshot.Laws.{readable}

@@ -1,10 +1,10 @@
 -- `write_one_hot` meets its contract: the image is cleared, and then set at the head.
 -- Assumes nothing.
-use Prim.Native.Nat.{ℕ, _<_}
-use mathlib.Core.Path.{_≡_, sym, ap, _∙_}
+use Prim.Native.Nat.{ℕ}
+use mathlib.Core.Path.{ap, _∙_}
 use mathlib.Core.List.{List}
 use native.Mathlib.Omega.{arith}
-use lib.ListN.{length, set, replicate, length-set}
+use lib.ListN.{length, set, length-set}
 use borrow.Author.Needs.{needs}
 use Rattle.rules.specs.RoundRobin.{start}
 use Rattle.rules.specs.RoundRobin.Laws.{start-at}

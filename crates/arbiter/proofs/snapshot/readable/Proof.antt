@@ -9,7 +9,7 @@ use Rattle.arbiter.specs.declared.question.Verdict.{Verdict}
 use Rattle.arbiter.specs.Questions as Questions
 use Rattle.arbiter.specs.Questions.{_then_}
 use Rattle.arbiter.specs.Questions.Laws.{chained, refused, passed, then-assoc, length-served}
-use Rattle.arbiter.specs.Snapshot.{held, noStray}
+use Rattle.arbiter.specs.Snapshot.{held}
 use Rattle.arbiter.proofs.snapshot.readable.Statement.{statement}
 use Rattle.arbiter.proofs.snapshot.readable.Tie as tie
 

@@ -1,8 +1,7 @@
 -- `cycle` meets its contract: a walk round gives the rule's grants, count and next head.
 -- Assumes nothing.
-use mathlib.Core.Path.{_≡_, ap, _∙_}
-use native.Mathlib.Omega.{arith}
-use lib.ListN.{length, replicate}
+use mathlib.Core.Path.{ap, _∙_}
+use lib.ListN.{length}
 use borrow.Author.Needs.{needs}
 use Rattle.arbiter.specs.Answers.{moved}
 use Rattle.arbiter.specs.Answers.Laws.{written, unwritten}
