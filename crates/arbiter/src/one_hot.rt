@@ -11,7 +11,8 @@ ghost use Rattle.arbiter.specs.OneHot as OneHot;
 ghost use Rattle.arbiter.specs.Places as Places;
 
 impl State {
-    // Replaces the head by the one that an image shows. Asks 1, 3, 4, 5, 8 and 10.
+    // Replaces the head by the one that an image shows. Asks 1, 3, 4, 5, 8 and 10. With 4 stations 0 0 1 0 gives head 2,
+    // and 0 1 0 1 is refused by 10 at place 3.
     pub fn read_one_hot(self, image: &[u8]) -> Answer
         ensures { λ r. ⌜ r ≡ OneHot.read self (now (image .entry)) ⌝ }
     {
@@ -23,7 +24,7 @@ impl State {
         self.moved(head).served(0)
     }
 
-    // Writes the image of the head. Asks 1, 3, 4 and 6.
+    // Writes the image of the head. Asks 1, 3, 4 and 6. With 4 stations head 2 gives 0 0 1 0, and no head 0 0 0 0.
     pub fn write_one_hot(self, image: &mut [u8]) -> Answer
         ensures { λ r. ⌜ r ≡ (OneHot.write self (now (image .entry))) .answer ⌝ }
         ensures { λ _. ⌜ now (image .exit) ≡ (OneHot.write self (now (image .entry))) .written ⌝ }

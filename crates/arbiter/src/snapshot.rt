@@ -11,7 +11,7 @@ ghost use lib.ListN.{length};
 ghost use Rattle.arbiter.specs.Snapshot as Snapshot;
 
 impl State {
-    // Writes the snapshot of this state. Asks 1, 3, 4 and 6.
+    // Writes the snapshot of this state. Asks 1, 3, 4 and 6. With 4 stations, 2 picks and head 1 it is 3 2 1 1.
     pub fn write_snapshot(self, snapshot: &mut [u8]) -> Answer
         ensures { λ r. ⌜ r ≡ (Snapshot.write self (now (snapshot .entry))) .answer ⌝ }
         ensures { λ _. ⌜ now (snapshot .exit) ≡ (Snapshot.write self (now (snapshot .entry))) .written ⌝ }
@@ -33,7 +33,8 @@ impl State {
         self.served(0)
     }
 
-    // The state that a snapshot holds. Asks 5, 8 of the last byte, 3 and 4.
+    // The state that a snapshot holds. Asks 5, 8 of the last byte, 3 and 4: 3 2 1 2 is refused by 8 at place 3, and 3 2 1 0 by
+    // 4.
     pub fn read_snapshot(snapshot: &[u8]) -> Answer
         ensures { λ r. ⌜ r ≡ Snapshot.read (now (snapshot .entry)) ⌝ }
     {

@@ -1,6 +1,6 @@
 -- A run of stations, step by step, and two runs as one walk round. All that is used of the round-robin rule are its laws.
 -- Assumes nothing.
-use Prim.Native.Nat.{ℕ, suc, _+_, _-_, _≤_, _<_, min}
+use Prim.Native.Nat.{ℕ, suc, _+_, _-_, _%_, _≤_, _<_, min}
 use mathlib.Core.Path.{_≡_, refl, sym, ap, _∙_}
 use mathlib.Core.Bool.{Bool, true, false, cond, _&&_, and-false}
 use mathlib.Core.List.{List, [], _∷_}
@@ -17,10 +17,10 @@ use Rattle.rules.specs.Lists.Laws as Lists
 use Rattle.rules.specs.RoundRobin.{start, order, granted, grants, next}
 use Rattle.rules.specs.RoundRobin.Laws as RoundRobin
 use Rattle.arbiter.specs.declared.State.{State}
-use Rattle.arbiter.specs.Answers.{served}
-use Rattle.arbiter.specs.Cycle.{asking}
+use Rattle.arbiter.specs.Answers.{moved, served}
+use Rattle.arbiter.specs.Cycle.{asking, answer, granting}
 use Rattle.scan.specs.declared.Walk.{Walk}
-use Rattle.scan.specs.Walks.{reached, Ran, Walked, idle, nextHead}
+use Rattle.scan.specs.Walks.{reached, Ran}
 
 -- counting one station more
 count-next : (p : ℕ → Bool) (from i : ℕ) → from ≤ i → count p (range from (i + 1 - from)) ≡ count p (range from (i - from)) + bit (p i)
@@ -134,6 +134,13 @@ cond-bit false x e = e
 -- no walk yet
 abbrev pub begun : Walk
 begun = record { count = 0; last = 0 }
+
+-- a walk once round: how many it granted, what it wrote, and the next head where it granted anyone
+pub record Walked (s : State) (requests : List ℕ) (walk : Walk) (new : List ℕ) : Type 0 where
+  pub counted : walk .count ≡ length (granted (s .width) (s .picks) (s .head) (asking s requests))
+  pub bytes : new ≡ granting s requests
+  pub within : 0 < walk .count → walk .last < s .width
+  pub final : 0 < walk .count → next (s .width) (s .picks) (s .head) (asking s requests) ≡ At ((walk .last + 1) % s .width)
 
 -- a run is told by where it begins and ends, and by the buffer before it
 pub told : {s : State} {requests : List ℕ} {from to a b : ℕ} {walk now : Walk} {old was new : List ℕ} → from ≡ a → to ≡ b
@@ -252,15 +259,8 @@ module _ (s : State) (requests : List ℕ) (station : start (s .head) < s .width
   round =
       record {
         counted = done-count;
-        grants = bytes;
-        within =
-            Lists.split (eqb (done .count) 0)
-            (λ e.
-            let zero : done .count ≡ 0 = eqb-true (done .count) 0 e in
-            let none : half .count ≡ 0 = omega (arith, two .counted, half-count) in
-            let from-zero : done .last ≡ 0 = two .none (omega arith) ∙ one .none none in
-            omega arith)
-            (λ e. last-of (omega (arith, eqb-false (done .count) 0 e)) .in-range);
+        bytes = bytes;
+        within = λ some. last-of some .in-range;
         final =
             λ some.
             let l = last-of some in
@@ -268,22 +268,32 @@ module _ (s : State) (requests : List ℕ) (station : start (s .head) < s .width
             (RoundRobin.granted-upto n m (s .head) asks (done .last) (omega arith) (l .in-range) (l .wants) (l .ends));
       }
 
--- the head after a walk that granted no one is the rule's
-idle-next : (n m : ℕ) (h : Head) (asks : ℕ → Bool) → granted n m h asks ≡ [] → idle n h ≡ next n m h asks
-idle-next n m None asks e = sym (RoundRobin.next-none n m asks e)
-idle-next n m (At h) asks e = sym (RoundRobin.next-stays n m h asks e)
+-- an idle cycle's next head
+idle-none : (n m : ℕ) (h : Head) (asks : ℕ → Bool) → h ≡ None → granted n m h asks ≡ [] → next n m h asks ≡ At (n - 1)
+idle-none n m h asks e none = rw e (RoundRobin.next-none n m asks (rw e at none))
 
--- and so it is after any walk round
-pub next-is : (s : State) (requests : List ℕ) (walk : Walk) (new : List ℕ) → Walked s requests walk new
-    → nextHead (s .width) (s .head) walk ≡ next (s .width) (s .picks) (s .head) (asking s requests)
-next-is s requests walk new w =
-    Lists.split (eqb (walk .count) 0)
-    (λ e.
-    let none : granted (s .width) (s .picks) (s .head) (asking s requests) ≡ [] =
-    Lists.empty _ (sym (w .counted) ∙ eqb-true (walk .count) 0 e) in
-    rw e (idle-next (s .width) (s .picks) (s .head) (asking s requests) none))
-    (λ e. rw e (sym (w .final (omega (arith, eqb-false (walk .count) 0 e)))))
+idle-stays : (n m : ℕ) (h : Head) (k : ℕ) (asks : ℕ → Bool) → h ≡ At k → granted n m h asks ≡ [] → next n m h asks ≡ h
+idle-stays n m h k asks e none = rw e (RoundRobin.next-stays n m k asks (rw e at none))
 
--- equal counts and equal states make equal answers
-pub answer-is : {k l : ℕ} {s t : State} → k ≡ l → s ≡ t → served k s ≡ served l t
-answer-is e f = rw (e, f)
+-- equal counts and equal heads make equal answers
+answer-is : (s : State) (k l : ℕ) (g h : Head) → k ≡ l → g ≡ h → served k (moved s g) ≡ served l (moved s h)
+answer-is s k l g h e f = rw (e, f)
+
+module _ (s : State) (requests : List ℕ) (walk : Walk) (new : List ℕ) (w : Walked s requests walk new) where
+  -- the answer after a walk that granted someone
+  pub some-granted : 0 < walk .count → served (walk .count) (moved s (At ((walk .last + 1) % s .width))) ≡ answer s requests
+  some-granted some = answer-is s (walk .count) _ _ _ (w .counted) (sym (w .final some))
+
+  nobody : walk .count ≡ 0 → granted (s .width) (s .picks) (s .head) (asking s requests) ≡ []
+  nobody z = Lists.empty _ (sym (w .counted) ∙ z)
+
+  -- after one that granted no one, without a head
+  pub none-granted : walk .count ≡ 0 → s .head ≡ None → served 0 (moved s (At (s .width - 1))) ≡ answer s requests
+  none-granted z e =
+      answer-is s 0 _ _ _ (sym z ∙ w .counted) (sym (idle-none (s .width) (s .picks) (s .head) (asking s requests) e (nobody z)))
+
+  -- and with one
+  pub none-moved : (k : ℕ) → walk .count ≡ 0 → s .head ≡ At k → served 0 s ≡ answer s requests
+  none-moved k z e =
+      answer-is s 0 _ (s .head) _ (sym z ∙ w .counted)
+      (sym (idle-stays (s .width) (s .picks) (s .head) k (asking s requests) e (nobody z)))

@@ -1,17 +1,14 @@
--- What the scan's inner functions promise one another. The promise of its calls is arbiter's Cycle.
+-- What a run of the walk promises. The promise of the scan's calls is arbiter's Cycle.
 -- Assumes nothing.
-use Prim.Native.Nat.{ℕ, suc, _+_, _-_, _%_, _≤_, _<_, min}
+use Prim.Native.Nat.{ℕ, suc, _+_, _-_, _≤_, _<_, min}
 use mathlib.Core.Path.{_≡_}
 use mathlib.Core.Bool.{true, cond, _&&_}
 use mathlib.Core.List.{List}
-use lib.Dec.{eqb, ltb}
+use lib.Dec.{ltb}
 use lib.ListN.{length, getD}
-use Rattle.rules.specs.declared.Head.{Head}
-use Rattle.rules.specs.declared.Head.the-variants.{None, At}
 use Rattle.rules.specs.Lists.{range, count}
-use Rattle.rules.specs.RoundRobin.{granted, next}
 use Rattle.arbiter.specs.declared.State.{State}
-use Rattle.arbiter.specs.Cycle.{asking, granting}
+use Rattle.arbiter.specs.Cycle.{asking}
 use Rattle.scan.specs.declared.Walk.{Walk}
 
 -- how many are granted when a run from one station comes to w, if the picks are not used up
@@ -30,19 +27,3 @@ pub record Ran (s : State) (requests : List ℕ) (from to : ℕ) (walk : Walk) (
   pub some : walk .count < now .count
       → (from ≤ now .last) × (now .last < to) × (asking s requests (now .last) ≡ true)
       × (suc (reached s requests from (now .last) walk) ≡ now .count)
-
--- a walk once round
-pub record Walked (s : State) (requests : List ℕ) (walk : Walk) (new : List ℕ) : Type 0 where
-  pub counted : walk .count ≡ length (granted (s .width) (s .picks) (s .head) (asking s requests))
-  pub grants : new ≡ granting s requests
-  pub within : walk .last < s .width
-  pub final : 0 < walk .count → next (s .width) (s .picks) (s .head) (asking s requests) ≡ At ((walk .last + 1) % s .width)
-
--- the head after a walk that granted no one
-abbrev pub idle : ℕ → Head → Head
-idle n None = At (n - 1)
-idle n (At h) = At h
-
--- the head after a walk
-abbrev pub nextHead : ℕ → Head → Walk → Head
-nextHead n h walk = cond (eqb (walk .count) 0) (idle n h) (At ((walk .last + 1) % n))

@@ -10,7 +10,7 @@ ghost use Prim.Native.Nat.{_≤_, _<_};
 ghost use lib.ListN.{length, replicate};
 ghost use Rattle.rules.specs.RoundRobin.{start};
 ghost use Rattle.arbiter.specs.Cycle as Cycle;
-ghost use Rattle.scan.specs.Walks.{Ran, Walked, nextHead};
+ghost use Rattle.scan.specs.Walks.{Ran};
 
 // A state that the plain scan serves.
 pub struct Scan(pub State);
@@ -22,14 +22,14 @@ struct Walk {
 }
 
 impl Scan {
-    // A state with no head. Asks 1, 3 and 4.
+    // Opens with no head. Asks 1, 3 and 4: a width of 257 is refused by 1, nine picks by 3.
     pub fn open(width: usize, picks: usize) -> Answer
         ensures { λ r. ⌜ r ≡ Cycle.opening width picks Head.None ⌝ }
     {
         State::open(width, picks, Head::None)
     }
 
-    // A state with a head. Asks 1, 3 and 4.
+    // Opens with a head. Asks 1, 3 and 4: of 4 stations, head 4 is refused by 4.
     pub fn open_at(width: usize, picks: usize, head: usize) -> Answer
         ensures { λ r. ⌜ r ≡ Cycle.opening width picks (Head.At head) ⌝ }
     {
@@ -37,7 +37,7 @@ impl Scan {
     }
 
     // One cycle: writes the grants of these requests, and answers with their count and the next state. Asks 1, 3, 4, 5, 6
-    // and 8.
+    // and 8. With 4 stations, 2 picks, head 3 and all asking it grants 3 and 0, and the next head is 1.
     pub fn cycle(self, requests: &[u8], grants: &mut [u8]) -> Answer
         ensures { λ r. ⌜ r ≡ (Cycle.cycle (self .0) (now (requests .entry)) (now (grants .entry))) .answer ⌝ }
         ensures { λ _. ⌜ now (grants .exit) ≡ (Cycle.cycle (self .0) (now (requests .entry)) (now (grants .entry))) .written ⌝ }
@@ -48,23 +48,34 @@ impl Scan {
             return s.refused(verdict);
         }
         clear(grants);
-        let walk = walk_round(s, requests, grants);
-        let next = next_head(s, walk);
-        s.moved(next).served(walk.count)
+        walk_round(s, requests, grants)
     }
 }
 
-// Walks the stations once round: from the head to the last, and then from 0 up to the head. The grant buffer is all 0 before.
-fn walk_round(s: State, requests: &[u8], grants: &mut [u8]) -> Walk
+// A cycle that no question refuses, with a grant buffer that is all 0. It walks the stations once round: from the head to the
+// last, and then from 0 up to the head. The next head is one past the station granted last. Where none was granted, a head
+// stays and no head becomes the last station.
+fn walk_round(s: State, requests: &[u8], grants: &mut [u8]) -> Answer
     requires { ⌜ start (s .head) < s .width ⌝ }
     requires { ⌜ length (now requests) ≡ s .width ⌝ }
     requires { ⌜ now grants ≡ replicate (s .width) 0 ⌝ }
-    ensures { λ r. ⌜ Walked s (now (requests .entry)) r (now (grants .exit)) ⌝ }
+    ensures { λ r. ⌜ r ≡ Cycle.answer s (now (requests .entry)) ⌝ }
+    ensures { λ _. ⌜ now (grants .exit) ≡ Cycle.granting s (now (requests .entry)) ⌝ }
 {
     let first = first_station(s);
     let begun = Walk { count: 0, last: 0 };
     let half = walk_run(s, requests, grants, first, s.width, begun);
-    walk_run(s, requests, grants, 0, first, half)
+    let walk = walk_run(s, requests, grants, 0, first, half);
+    if walk.count != 0 {
+        let next = (walk.last + 1) % s.width;
+        return s.moved(Head::At(next)).served(walk.count);
+    }
+    let end = s.width - 1;
+    let head = s.head;
+    match head {
+        Head::None => s.moved(Head::At(end)).served(0),
+        Head::At(_) => s.served(0),
+    }
 }
 
 // Grants those that ask of the stations from `from` up to `to`, in that order, until the picks are used up. `walk` is how far
@@ -108,24 +119,5 @@ fn first_station(s: State) -> usize
     match head {
         Head::None => 0,
         Head::At(h) => h,
-    }
-}
-
-// The next head after a walk: one past the station granted last. Where none was granted, a head stays and no head becomes the
-// last station.
-fn next_head(s: State, walk: Walk) -> Head
-    requires { ⌜ 0 < s .width ⌝ }
-    requires { ⌜ walk .last < s .width ⌝ }
-    ensures { λ r. ⌜ r ≡ nextHead (s .width) (s .head) walk ⌝ }
-{
-    if walk.count != 0 {
-        let next = (walk.last + 1) % s.width;
-        return Head::At(next);
-    }
-    let end = s.width - 1;
-    let head = s.head;
-    match head {
-        Head::None => Head::At(end),
-        Head::At(h) => Head::At(h),
     }
 }

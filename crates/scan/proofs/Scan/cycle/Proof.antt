@@ -1,12 +1,10 @@
--- `cycle` meets its contract: a walk round gives the rule's grants, count and next head.
+-- `cycle` meets its contract: it asks its questions, and then a walk round gives the rule's answer and grants.
 -- Assumes nothing.
-use mathlib.Core.Path.{ap, _∙_}
+use mathlib.Core.Path.{_∙_}
 use lib.ListN.{length}
 use borrow.Author.Needs.{needs}
-use Rattle.arbiter.specs.Answers.{moved}
 use Rattle.arbiter.specs.Answers.Laws.{written, unwritten}
 use Rattle.arbiter.specs.Cycle.Laws.{Ready, ready}
-use Rattle.scan.proofs.Walks as Walks
 use Rattle.scan.proofs.Scan.cycle.Statement.{statement}
 use Rattle.scan.proofs.Scan.cycle.Tie as tie
 
@@ -33,30 +31,14 @@ walk-round-requires c κs =
     let e = asked (k .before .before) in
     (e .allows .station, (e .asked, k .clear .ensures ∙ rw (e .room)))
 
-next-head-requires : tie.Need-next-head-requires
-next-head-requires c κs = search needs
-
-moved-requires : tie.Need-moved-requires
-moved-requires c κs = search needs
-
-served-requires : tie.Need-served-requires
-served-requires c κs = search needs
-
 same-length : tie.Need-same-length
 same-length c = search needs
 
 returns-2 : tie.Need-returns-2
 returns-2 c =
-    let h = c .before .before in
-    let w = h .before .before .before in
+    let w = c .before .before in
     let e = w .before .before .before .before .before .before in
-    let a = e .before .before .before .before .before .before .args in
-    let s = a .self .0 in
-    let r = w .walk-round .ensures in
-    let next = h .next-head .ensures ∙ Walks.next-is s (a .requests .now) (w .walk-round .result) _ r in
-    written _ _ (e .before .before .cycle .ensures) (e .if1 .left)
-    (c .served .ensures ∙ Walks.answer-is (r .counted) (c .before .moved .ensures ∙ ap (moved s) next))
-    (r .grants)
+    written _ _ (e .before .before .cycle .ensures) (e .if1 .left) (w .walk-round .ensures .0) (w .walk-round .ensures .1)
 
 pub cycle-spec : {M : Type 1} → statement M
 cycle-spec =
@@ -67,8 +49,5 @@ cycle-spec =
     returns
     clear-requires
     walk-round-requires
-    next-head-requires
-    moved-requires
-    served-requires
     same-length
     returns-2)
