@@ -11,9 +11,10 @@ ghost use lib.ListN.{length, replicate};
 ghost use Rattle.arbiter.specs.Answers as Answers;
 ghost use Rattle.arbiter.specs.Cycle as Cycle;
 
-// The most stations, and the most picks in one cycle.
+// The most stations.
 pub const MAX_WIDTH: usize = 256;
 
+// The most picks in one cycle.
 pub const MAX_PICKS: usize = 8;
 
 // How long a snapshot is.
@@ -79,7 +80,7 @@ impl State {
         }
     }
 
-    // The answer of a call that makes this state, or is refused and returns none.
+    // The answer of a call that makes this state: served it returns the state, refused it returns width 0, no picks and no head.
     pub fn opened(self, verdict: Verdict) -> Answer
         ensures { λ r. ⌜ r ≡ Answers.opened verdict self ⌝ }
     {
@@ -89,7 +90,7 @@ impl State {
         State::nothing().refused(verdict)
     }
 
-    // What a call that makes a state returns where it is refused: width 0, no picks and no head.
+    // What a call that was to make a state returns where it is refused.
     fn nothing() -> State
         ensures { λ r. ⌜ r ≡ Answers.nothing ⌝ }
     {
