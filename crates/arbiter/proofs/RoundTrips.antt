@@ -20,7 +20,7 @@ use Rattle.arbiter.specs.Places.Laws.{Free, free-of, found}
 use Rattle.arbiter.specs.Questions as Questions
 use Rattle.arbiter.specs.Questions.{_then_}
 use Rattle.arbiter.specs.Questions.Laws as Asked
-use Rattle.arbiter.specs.Answers.{moved, nothing, served, refused}
+use Rattle.arbiter.specs.Answers.{moved, served, refused}
 use Rattle.arbiter.specs.Answers.Laws as Answers
 use Rattle.arbiter.specs.OneHot as OneHot
 use Rattle.arbiter.specs.OneHot.Laws as Image
@@ -163,7 +163,7 @@ pub snapshot-written-back : SnapshotWrittenBack
 snapshot-written-back bytes former byte z e =
     let v = Snapshot.questions bytes in
     let s = Snapshot.held bytes in
-    let passes : v .number ≡ 0 = Answers.served-passed v (served 0 s) (refused v nothing) (λ (a : Answer). a .number) refl z in
+    let passes : v .number ≡ 0 = Answers.served-passed v (served 0 s) _ (λ (a : Answer). a .number) refl z in
     let r = Saved.readable bytes refl passes in
     let width : s .width ≡ getD bytes 0 0 + 1 = held-width bytes in
     let allowed : Asked.Allowed s =
@@ -177,7 +177,7 @@ snapshot-written-back bytes former byte z e =
     } in
     let free : Free (ltb 1) 3 (length bytes) bytes = free-of (Asked.first-served 7 _ (r .mark)) in
     let same : Snapshot.saved s ≡ bytes = saved-held bytes (r .long) (free .at 3 (omega arith) (omega (arith, r .long))) (r .clean) in
-    let read : Snapshot.read bytes ≡ served 0 s = Answers.passed-is v (served 0 s) (refused v nothing) passes in
+    let read : Snapshot.read bytes ≡ served 0 s = Answers.passed-is v (served 0 s) _ passes in
     rw read
     (Answers.writes-is (Questions.write s 4 (length former)) s (served 0 s) (Snapshot.saved s) former
     (Asked.writes s 4 (length former) allowed e)

@@ -26,7 +26,10 @@ same-length : tie.Need-same-length Inv-loop μ-loop
 same-length c = omega arith
 
 returns : tie.Need-returns Inv-loop μ-loop
-returns c = let l = c .before .before .before .loop in Walks.full _ _ _ _ _ (l .i) (l .inv .0) _ _ (l .inv .3) _ (omega arith) (c .if1 .taken)
+returns c =
+    let l = c .before .before .before .loop in
+    let used-up : l .count ≡ c .before .before .before .before .args .s .picks = omega (arith, l .inv .3 .counted) in
+    Walks.full _ _ _ _ _ (l .i) (l .inv .0) _ _ (l .inv .3) _ (omega arith) used-up
 
 shared-slice-read-if2 : tie.Need-shared-slice-read-if2 Inv-loop μ-loop
 shared-slice-read-if2 c = omega arith

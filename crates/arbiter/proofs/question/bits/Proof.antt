@@ -1,10 +1,10 @@
 -- `bits` meets its contract: every byte that it passed is 0 or 1.
 -- Assumes nothing.
-use Prim.Native.Nat.{_≤_, _-_}
+use Prim.Native.Nat.{_≤_, _<_, _-_}
 use lib.Dec.{ltb}
 use mathlib.Core.Path.{sym, ap, _∙_}
 use native.Mathlib.Omega.{arith}
-use lib.ListN.{length}
+use lib.ListN.{length, getD}
 use borrow.Author.Needs.{needs}
 use borrow.Author.Tests.{lt-ltb, le-ltb}
 use Rattle.arbiter.specs.Places.Laws.{Free, free-none, free-more, places-none, places-first}
@@ -28,7 +28,12 @@ refuse-unless-requires : tie.Need-refuse-unless-requires Inv-loop μ-loop
 refuse-unless-requires c κs = search needs
 
 returns : tie.Need-returns Inv-loop μ-loop
-returns c = let b = c .before .before .before .before in c .refuse-unless .ensures ∙ sym (ap (refuseAtFirst 8) (places-first (b .loop .inv .1) (b .loop .inv .0) (omega arith) (lt-ltb _ _ (c .before .if1 .taken))))
+returns c =
+    let l = c .before .before .before .before .loop in
+    let byte = getD (c .before .before .before .before .before .before .args .bytes .now) (l .i) 0 in
+    let over : 1 < byte = omega arith in
+    c .refuse-unless .ensures
+    ∙ sym (ap (refuseAtFirst 8) (places-first (l .inv .1) (l .inv .0) (omega arith) (lt-ltb 1 byte over)))
 
 add-i : tie.Need-add-i Inv-loop μ-loop
 add-i c = omega arith
@@ -37,7 +42,11 @@ loop-less : tie.Need-loop-less Inv-loop μ-loop
 loop-less c = omega arith
 
 loop-again : tie.Need-loop-again Inv-loop μ-loop
-loop-again c = (omega arith, free-more (c .before .before .before .loop .inv .1) (le-ltb _ _ (c .if1 .left)))
+loop-again c =
+    let l = c .before .before .before .loop in
+    let byte = getD (c .before .before .before .before .before .args .bytes .now) (l .i) 0 in
+    let bit : byte ≤ 1 = omega arith in
+    (omega arith, free-more (l .inv .1) (le-ltb 1 byte bit))
 
 refuse-unless-requires-2 : tie.Need-refuse-unless-requires-2 Inv-loop μ-loop
 refuse-unless-requires-2 c κs = search needs
