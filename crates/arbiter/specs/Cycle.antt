@@ -3,11 +3,11 @@
 -- Assumes nothing.
 use Prim.Native.Nat.{ℕ}
 use mathlib.Core.Bool.{Bool}
-use mathlib.Core.List.{List}
+use mathlib.Core.List.{List, []}
 use lib.Dec.{eqb}
 use lib.ListN.{length, getD}
 use Rattle.rules.specs.declared.Head.{Head}
-use Rattle.rules.specs.RoundRobin.{granted, grants, next}
+use Rattle.rules.specs.RoundRobin.{granted, grants, after, next}
 use Rattle.arbiter.specs.declared.Answer.{Answer}
 use Rattle.arbiter.specs.declared.State.{State}
 use Rattle.arbiter.specs.declared.question.Verdict.{Verdict}
@@ -30,7 +30,11 @@ answer s requests =
     let asks = asking s requests in
     served (length (granted (s .width) (s .picks) (s .head) asks)) (moved s (next (s .width) (s .picks) (s .head) asks))
 
--- its grant buffer
+-- the answer of one that grants no one: "a head stays", and none becomes N - 1
+abbrev pub idle : State → Answer
+idle s = served 0 (moved s (after (s .width) (s .head) []))
+
+-- the grant buffer of a served cycle
 abbrev pub granting : State → List ℕ → List ℕ
 granting s requests = grants (s .width) (s .picks) (s .head) (asking s requests)
 

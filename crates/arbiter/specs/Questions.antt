@@ -1,12 +1,14 @@
 -- 01, "Questions each call asks, in this order". n is the width, 01's N; m is the pick count; h is the head.
 -- Assumes nothing.
-use Prim.Native.Nat.{ℕ}
+use Prim.Native.Nat.{ℕ, _*_, _^_}
 use mathlib.Core.Bool.{Bool, true, false, cond, _&&_}
-use mathlib.Core.List.{List, [], _∷_}
+use mathlib.Core.List.{List, [], _∷_, map}
 use lib.Dec.{eqb, ltb, leb}
 use lib.ListN.{drop}
 use Rattle.rules.specs.declared.Head.{Head}
 use Rattle.rules.specs.declared.Head.the-variants.{None, At}
+use Rattle.rules.specs.Lists.{range, member}
+use Rattle.rules.specs.Thermometer.{isCode}
 use Rattle.arbiter.specs.declared.State.{State}
 use Rattle.arbiter.specs.declared.question.Verdict.{Verdict}
 use Rattle.arbiter.specs.Places.{places, ones}
@@ -39,9 +41,21 @@ maxWidth = 256
 abbrev pub width : ℕ → Verdict
 width n = refuseUnless (leb 1 n && leb n maxWidth) 1 0
 
+-- 2: "For the tree, is N a power of two, at least 2?"
+abbrev pub treeWidth : ℕ → Verdict
+treeWidth n = refuseUnless (member n (map (λ k. 2 ^ k) (range 1 n))) 2 0
+
 -- 3: "Is m allowed": 1 to 8 and at most N
 abbrev pub picks : ℕ → ℕ → Verdict
 picks n m = refuseUnless ((leb 1 m && leb m 8) && leb m n) 3 0
+
+-- 3 for an adder, which has no N: 1 to 8
+abbrev pub pickCount : ℕ → Verdict
+pickCount m = refuseUnless (leb 1 m && leb m 8) 3 0
+
+-- 3 for the tree and the bus: "m is 1"
+abbrev pub onePick : ℕ → Verdict
+onePick m = refuseUnless (eqb m 1) 3 0
 
 -- 4: "Is the head none or below N"
 abbrev pub head : ℕ → Head → Verdict
@@ -56,6 +70,10 @@ readLength stated length = refuseUnless (eqb length stated) 5 0
 abbrev pub writeLength : ℕ → ℕ → Verdict
 writeLength stated length = refuseUnless (eqb length stated) 6 0
 
+-- 7: "Is the node buffer 2N long?"
+abbrev pub nodesLength : ℕ → ℕ → Verdict
+nodesLength n length = refuseUnless (eqb length (2 * n)) 7 0
+
 -- 8: "Is every byte read 0 or 1", from a place on; "the place of the first that is not"
 abbrev pub bits : ℕ → List ℕ → Verdict
 bits from bytes = refuseAtFirst 8 (places (ltb 1) from bytes)
@@ -63,6 +81,10 @@ bits from bytes = refuseAtFirst 8 (places (ltb 1) from bytes)
 -- 10: "Has a wire image at most one 1"; "the place of the second"
 abbrev pub oneHot : List ℕ → Verdict
 oneHot image = refuseAtFirst 10 (drop 1 (ones 0 image))
+
+-- 13: "are both codes thermometer codes for m"
+abbrev pub codes : ℕ → ℕ → ℕ → Verdict
+codes m a b = refuseUnless (isCode m a && isCode m b) 13 0
 
 -- 1, 3 and 4 of a state
 abbrev pub state : State → Verdict

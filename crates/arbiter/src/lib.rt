@@ -7,7 +7,9 @@ mod snapshot;
 use question::Verdict;
 use rules::Head;
 ghost use mathlib.Core.Path.{_≡_};
+ghost use Prim.Native.Nat.{_-_};
 ghost use lib.ListN.{length, replicate};
+ghost use Rattle.rules.specs.RoundRobin.{start};
 ghost use Rattle.arbiter.specs.Answers as Answers;
 ghost use Rattle.arbiter.specs.Cycle as Cycle;
 
@@ -88,6 +90,38 @@ impl State {
             return self.served(0);
         }
         State::nothing().refused(verdict)
+    }
+
+    // The answer of a served cycle that grants no one: a head stays, and no head becomes the last station.
+    pub fn idle(self) -> Answer
+        ensures { λ r. ⌜ r ≡ Cycle.idle self ⌝ }
+    {
+        let head = self.head;
+        match head {
+            Head::None => self.moved(Head::At(self.last_station())).served(0),
+            Head::At(_) => self.served(0),
+        }
+    }
+
+    // The station that comes first in the order: the head, or 0 where there is none.
+    pub fn first_station(self) -> usize
+        ensures { λ r. ⌜ r ≡ start (self .head) ⌝ }
+    {
+        let head = self.head;
+        match head {
+            Head::None => 0,
+            Head::At(h) => h,
+        }
+    }
+
+    // The station with the highest number, or 0 where there is no station.
+    fn last_station(self) -> usize
+        ensures { λ r. ⌜ r ≡ self .width - 1 ⌝ }
+    {
+        if self.width == 0 {
+            return 0;
+        }
+        self.width - 1
     }
 
     // What a call that was to make a state returns where it is refused.

@@ -30,7 +30,7 @@ impl Verdict {
 }
 
 // The verdict of a question with this number: yes passes, no refuses at a place.
-pub(crate) fn refuse_unless(yes: bool, number: usize, place: usize) -> Verdict
+pub fn refuse_unless(yes: bool, number: usize, place: usize) -> Verdict
     ensures { λ r. ⌜ r ≡ Questions.refuseUnless yes number place ⌝ }
 {
     if yes {
@@ -58,6 +58,13 @@ pub fn picks(width: usize, picks: usize) -> Verdict
         refusal::PICKS,
         0,
     )
+}
+
+// Question 3 of an arbiter with one pick: is that the number of the picks?
+pub fn one_pick(picks: usize) -> Verdict
+    ensures { λ r. ⌜ r ≡ Questions.onePick picks ⌝ }
+{
+    refuse_unless(picks == 1, refusal::PICKS, 0)
 }
 
 // Question 4: is the head none or a station?

@@ -1,5 +1,6 @@
 pub mod Lists
 pub mod RoundRobin
+pub mod Walk
 pub mod Tree
 pub mod Thermometer
 pub mod Bus

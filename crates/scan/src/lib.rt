@@ -9,8 +9,9 @@ ghost use mathlib.Core.Path.{_≡_};
 ghost use Prim.Native.Nat.{_≤_, _<_};
 ghost use lib.ListN.{length, replicate};
 ghost use Rattle.rules.specs.RoundRobin.{start};
+ghost use Rattle.rules.specs.Walk.{Ran};
 ghost use Rattle.arbiter.specs.Cycle as Cycle;
-ghost use Rattle.scan.specs.Walks.{Ran};
+ghost use Rattle.arbiter.specs.Cycle.{asking};
 
 // A state that the plain scan serves.
 pub struct Scan(pub State);
@@ -53,8 +54,7 @@ impl Scan {
 }
 
 // A cycle that no question refuses, with a grant buffer that is all 0. It walks the stations once round: from the head to the
-// last, and then from 0 up to the head. The next head is one past the station granted last. Where none was granted, a head
-// stays and no head becomes the last station.
+// last, and then from 0 up to the head. The next head is one past the station granted last.
 fn walk_round(s: State, requests: &[u8], grants: &mut [u8]) -> Answer
     requires { ⌜ start (s .head) < s .width ⌝ }
     requires { ⌜ length (now requests) ≡ s .width ⌝ }
@@ -62,7 +62,7 @@ fn walk_round(s: State, requests: &[u8], grants: &mut [u8]) -> Answer
     ensures { λ r. ⌜ r ≡ Cycle.answer s (now (requests .entry)) ⌝ }
     ensures { λ _. ⌜ now (grants .exit) ≡ Cycle.granting s (now (requests .entry)) ⌝ }
 {
-    let first = first_station(s);
+    let first = s.first_station();
     let begun = Walk { count: 0, last: 0 };
     let half = walk_run(s, requests, grants, first, s.width, begun);
     let walk = walk_run(s, requests, grants, 0, first, half);
@@ -70,12 +70,7 @@ fn walk_round(s: State, requests: &[u8], grants: &mut [u8]) -> Answer
         let next = (walk.last + 1) % s.width;
         return s.moved(Head::At(next)).served(walk.count);
     }
-    let end = s.width - 1;
-    let head = s.head;
-    match head {
-        Head::None => s.moved(Head::At(end)).served(0),
-        Head::At(_) => s.served(0),
-    }
+    s.idle()
 }
 
 // Grants those that ask of the stations from `from` up to `to`, in that order, until the picks are used up. `walk` is how far
@@ -92,7 +87,7 @@ fn walk_run(
     requires { ⌜ to ≤ length (now requests) ⌝ }
     requires { ⌜ to ≤ length (now grants) ⌝ }
     requires { ⌜ walk .count ≤ s .picks ⌝ }
-    ensures { λ r. ⌜ Ran s (now (requests .entry)) from to walk (now (grants .entry)) r (now (grants .exit)) ⌝ }
+    ensures { λ r. ⌜ Ran (s .picks) (asking s (now (requests .entry))) from to (walk .count) (walk .last) (now (grants .entry)) (r .count) (r .last) (now (grants .exit)) ⌝ }
 {
     let mut count = walk.count;
     let mut last = walk.last;
@@ -109,15 +104,4 @@ fn walk_run(
         i += 1;
     }
     Walk { count, last }
-}
-
-// The station that comes first: the head, or 0 where there is none.
-fn first_station(s: State) -> usize
-    ensures { λ r. ⌜ r ≡ start (s .head) ⌝ }
-{
-    let head = s.head;
-    match head {
-        Head::None => 0,
-        Head::At(h) => h,
-    }
 }

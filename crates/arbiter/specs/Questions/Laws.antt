@@ -1,14 +1,14 @@
 -- Laws of the questions: how a call that asks one after another meets its definition, and what it knows once all have passed.
 -- Assumes nothing.
-use Prim.Native.Nat.{ℕ, suc, _+_, _≤_, _<_}
+use Prim.Native.Nat.{ℕ, suc, _+_, _^_, _≤_, _<_}
 use mathlib.Core.Path.{_≡_, refl, sym, ap, _∙_}
 use mathlib.Core.Bool.{Bool, true, false, _&&_, true≢false}
 use mathlib.Core.List.{List, [], _∷_}
 use native.Mathlib.Omega.{arith}
 use native.Mathlib.Numerals.{add-one}
-use lib.Dec.{eqb, leb}
-use lib.ListN.{drop}
-use borrow.Author.Tests.{eq-eqb, ne-eqb, eqb-true, eqb-false, leb-true, ltb-true, le-leb, lt-ltb}
+use lib.Dec.{eqb, leb, ltb}
+use lib.ListN.{length, getD, drop}
+use borrow.Author.Tests.{eq-eqb, ne-eqb, eqb-true, eqb-false, leb-true, ltb-true, ltb-false, le-leb, lt-ltb}
 use Rattle.rules.specs.declared.Head.{Head}
 use Rattle.rules.specs.declared.Head.the-variants.{None, At}
 use Rattle.rules.specs.Lists.Laws as Lists
@@ -17,8 +17,8 @@ use Rattle.rules.specs.RoundRobin.Laws as RoundRobin
 use Rattle.arbiter.specs.declared.State.{State}
 use Rattle.arbiter.specs.declared.question.Verdict.{Verdict}
 use Rattle.arbiter.specs.Places.{ones, first}
-use Rattle.arbiter.specs.Places.Laws.{found}
-use Rattle.arbiter.specs.Questions.{refuseUnless, refuseAtFirst, _then_, maxWidth, width, picks, head, writeLength, oneHot, state, write}
+use Rattle.arbiter.specs.Places.Laws.{Free, found, free-of}
+use Rattle.arbiter.specs.Questions.{refuseUnless, refuseAtFirst, _then_, maxWidth, width, treeWidth, picks, onePick, head, writeLength, bits, oneHot, state, write}
 
 -- r is the verdict on a, the first question. If it refuses, it decides
 pub refused : {a r : Verdict} (b : Verdict) → r ≡ a → (r .number ≡ 0 → ⊥) → r ≡ (a then b)
@@ -107,12 +107,23 @@ picks-served n m z =
     let u = both (leb 1 m) (leb m 8) (t .0) in
     (leb-true 1 m (u .0), leb-true m 8 (u .1), leb-true m n (t .1))
 
+pub one-pick-served : (m : ℕ) → (onePick m) .number ≡ 0 → m ≡ 1
+one-pick-served m z = eqb-true m 1 (unless-served _ 2 0 z)
+
+pub tree-width-served : (n : ℕ) → (treeWidth n) .number ≡ 0 → (k : ℕ) × (1 ≤ k) × (n ≡ 2 ^ k)
+tree-width-served n z =
+    let r = Lists.table-entry (λ k. 2 ^ k) n 1 n (unless-served _ 1 0 z) in (r .0, r .1, r .3)
+
 pub head-served : (n : ℕ) (h : Head) → 1 ≤ n → (head n h) .number ≡ 0 → start h < n
 head-served n None l z = omega (arith, RoundRobin.start-none)
 head-served n (At h) l z = omega (arith, RoundRobin.start-at h, ltb-true h n (unless-served _ 3 0 z))
 
 pub length-served : (k stated length : ℕ) → (refuseUnless (eqb length stated) (suc k) 0) .number ≡ 0 → length ≡ stated
 length-served k stated length z = eqb-true length stated (unless-served _ k 0 z)
+
+pub bits-served : (bytes : List ℕ) → (bits 0 bytes) .number ≡ 0 → (i : ℕ) → i < length bytes → getD bytes i 0 ≤ 1
+bits-served bytes z i l =
+    let none = free-of {test = ltb 1} {from = 0} {bytes = bytes} (first-served 7 _ z) in ltb-false 1 (getD bytes i 0) (none .at i (omega arith) l)
 
 pub allowed : (s : State) → (state s) .number ≡ 0 → Allowed s
 allowed s z =

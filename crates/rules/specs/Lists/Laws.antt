@@ -248,6 +248,24 @@ getD-table f a (suc k) (suc i) l = rw (add-suc a i, ← suc-add a i) (getD-table
 pub length-table : (f : ℕ → ℕ) (a k : ℕ) → length (map f (range a k)) ≡ k
 length-table f a k = length-map (range a k) f ∙ length-range a k
 
+-- an entry of a table is that of one of its numbers
+pub table-entry : (f : ℕ → ℕ) (x a k : ℕ) → member x (map f (range a k)) ≡ true → (i : ℕ) × (a ≤ i) × (i < a + k) × (x ≡ f i)
+table-entry f x a zero h = absurd (true≢false (sym h))
+table-entry f x a (suc k) h =
+    split (eqb x (f a))
+    (λ e. (a, omega arith, omega arith, eqb-true x (f a) e))
+    (λ e. let r = table-entry f x (suc a) k (rw e at h) in (r .0, omega (arith, r .1), omega (arith, r .2), r .3))
+
+-- and the other way round
+pub entry-table : (f : ℕ → ℕ) (i a k : ℕ) → a ≤ i → i < a + k → member (f i) (map f (range a k)) ≡ true
+entry-table f i a zero l u = absurd (omega arith)
+entry-table f i a (suc k) l u =
+    split (eqb i a)
+    (λ e. rw (eqb-true i a e, eq-eqb (f a) (f a) refl))
+    (λ e.
+    let rest = entry-table f i (suc a) k (omega (arith, eqb-false i a e)) (omega arith) in
+    split (eqb (f i) (f a)) (λ t. rw t) (λ t. rw t rest))
+
 -- nothing of a range passes a test that fails at all its numbers
 pub filter-none : (p : ℕ → Bool) (a k : ℕ) → ((i : ℕ) → a ≤ i → i < a + k → p i ≡ false) → filter p (range a k) ≡ []
 filter-none p a zero h = refl
@@ -312,3 +330,40 @@ first-of p a (suc k) w ws e =
 pub last-snoc : (x : ℕ) (xs : List ℕ) (w : ℕ) → last x (xs ++ (w ∷ [])) ≡ w
 last-snoc x [] w = refl
 last-snoc x (y ∷ ys) w = last-snoc y ys w
+
+-- counting along a range, one number more
+pub count-next : (p : ℕ → Bool) (from i : ℕ) → from ≤ i → count p (range from (i + 1 - from)) ≡ count p (range from (i - from)) + bit (p i)
+count-next p from i l =
+    let one : i + 1 - from ≡ suc (i - from) = omega arith in
+    let here : from + (i - from) ≡ i = omega arith in
+    ap (λ (k : ℕ). count p (range from k)) one
+    ∙ ap (count p) (range-snoc from (i - from))
+    ∙ count-append p (range from (i - from)) ((from + (i - from)) ∷ [])
+    ∙ rw here (omega arith)
+
+-- a longer range counts no fewer
+pub count-more : (p : ℕ → Bool) (from i to : ℕ) → from ≤ i → i ≤ to → count p (range from (i - from)) ≤ count p (range from (to - from))
+count-more p from i to l u =
+    let parts : to - from ≡ (i - from) + (to - i) = omega arith in
+    omega (
+      arith,
+      ap (λ (k : ℕ). count p (range from k)) parts,
+      ap (count p) (range-append from (i - from) (to - i)),
+      count-append p (range from (i - from)) (range (from + (i - from)) (to - i)),
+    )
+
+-- the first that a filter leaves is of the list and passes, and nobody before it does
+pub first-left : (p : ℕ → Bool) (xs : List ℕ) (w : ℕ) (ws : List ℕ) → filter p xs ≡ w ∷ ws
+    → (member w xs ≡ true) × (p w ≡ true) × (count p (before w xs) ≡ 0)
+first-left p [] w ws e = let z : _≡_ {A = ℕ} 0 1 = cc in absurd (omega arith)
+first-left p (x ∷ xs) w ws e =
+    split (p x)
+    (λ t.
+    let here : x ∷ filter p xs ≡ w ∷ ws = rw t at e in
+    let same : x ≡ w = cc in
+    (rw (eq-eqb w x (sym same)), rw same at t, rw (eq-eqb w x (sym same))))
+    (λ f.
+    let r = first-left p xs w ws (rw f at e) in
+    split (eqb w x)
+    (λ q. (rw q, r .1, rw q))
+    (λ q. (rw q (r .0), r .1, rw (q, f) (omega (arith, r .2)))))

@@ -10,8 +10,9 @@ use native.Mathlib.Omega.{arith}
 use native.Mathlib.Nat.{mod-eq-of-lt, mod-self, mod-lt, zero-add}
 use native.Mathlib.Numerals.{add-one}
 use lib.Dec.{ltb, eqb}
-use borrow.Author.Tests.{ltb-true, ltb-false, eq-eqb}
-use lib.ListN.{length, getD, length-take}
+use borrow.Author.Tests.{ltb-true, ltb-false, eqb-true, eqb-false, eq-eqb}
+use lib.ListN.{length, getD, set, replicate, length-take, length-set, length-replicate, getD-replicate}
+use lib.Seq.{getD-set-same, getD-set-other, ext-getD}
 use Rattle.rules.specs.declared.Head.{Head}
 use Rattle.rules.specs.declared.Head.the-variants.{None, At}
 use Rattle.rules.specs.Lists.{bit, range, filter, count, member, before, last}
@@ -203,21 +204,52 @@ pub grants-member : (n m : ℕ) (h : Head) (asks : ℕ → Bool) (w : ℕ) → w
 unfolding grants
 grants-member n m h asks w k = Lists.getD-table _ 0 n w k ∙ rw zero-add
 
+-- where nobody is granted it is all 0
+pub grants-none : (n m : ℕ) (h : Head) (asks : ℕ → Bool) → granted n m h asks ≡ [] → replicate n 0 ≡ grants n m h asks
+grants-none n m h asks e =
+    ext-getD 0 (replicate n 0) (grants n m h asks) (length-replicate n 0 ∙ sym (grants-length n m h asks))
+    (λ i l.
+    let k : i < n = omega (arith, length-replicate {A = ℕ} n 0) in
+    getD-replicate n i 0 0 k ∙ sym (grants-member n m h asks i k ∙ rw e))
+
+-- where one is, it has a single 1
+pub grants-one : (n m : ℕ) (h : Head) (asks : ℕ → Bool) (w : ℕ) → w < n → granted n m h asks ≡ w ∷ []
+    → set (replicate n 0) w 1 ≡ grants n m h asks
+grants-one n m h asks w station e =
+    ext-getD 0 (set (replicate n 0) w 1) (grants n m h asks) (long ∙ sym (grants-length n m h asks))
+    (λ i l.
+    let k : i < n = omega (arith, long) in
+    byte i k ∙ sym (grants-member n m h asks i k ∙ rw e))
+  where
+    long : length {A = ℕ} (set (replicate n 0) w 1) ≡ n
+    long = length-set (replicate n 0) w 1 ∙ length-replicate n 0
+
+    byte : (i : ℕ) → i < n → getD (set (replicate n 0) w 1) i 0 ≡ bit (member i (w ∷ []))
+    byte i k =
+        Lists.split (eqb i w)
+        (λ t. rw (t, eqb-true i w t) (getD-set-same (replicate n 0) w 1 0 (omega (arith, length-replicate {A = ℕ} n 0))))
+        (λ f. rw f (getD-set-other (replicate n 0) w i 1 0 (eqb-false i w f) ∙ getD-replicate n i 0 0 k))
+
 -- the next head is one past the one granted last, modulo n
 pub next-last : (n m : ℕ) (h : Head) (asks : ℕ → Bool) (front : List ℕ) (w : ℕ) → granted n m h asks ≡ front ++ (w ∷ [])
     → next n m h asks ≡ At ((w + 1) % n)
 unfolding next
 next-last n m h asks front w e = ap (after n h) e ∙ after-last n h front w
 
--- with none granted a head stays
-pub next-stays : (n m k : ℕ) (asks : ℕ → Bool) → granted n m (At k) asks ≡ [] → next n m (At k) asks ≡ At k
-unfolding next after
-next-stays n m k asks e = rw e
+-- with none granted it is the head after nobody
+pub next-idle : (n m : ℕ) (h : Head) (asks : ℕ → Bool) → granted n m h asks ≡ [] → next n m h asks ≡ after n h []
+unfolding next
+next-idle n m h asks e = ap (after n h) e
+
+-- after nobody a head stays
+pub after-stays : (n k : ℕ) → after n (At k) [] ≡ At k
+unfolding after
+after-stays n k = refl
 
 -- and no head becomes n - 1
-pub next-none : (n m : ℕ) (asks : ℕ → Bool) → granted n m None asks ≡ [] → next n m None asks ≡ At (n - 1)
-unfolding next after
-next-none n m asks e = rw e
+pub after-none : (n : ℕ) → after n None [] ≡ At (n - 1)
+unfolding after
+after-none n = refl
 
 -- a cycle that grants cuts the order at the one granted last: those before it that ask are granted too, and the next order
 -- starts behind it

@@ -5,8 +5,10 @@ use mathlib.Core.Path.{refl, ap, _∙_}
 use native.Mathlib.Omega.{arith}
 use lib.ListN.{length, length-replicate}
 use borrow.Author.Needs.{needs}
+use Rattle.rules.specs.Walk.Laws as Walk
 use Rattle.arbiter.specs.Answers.{served}
-use Rattle.scan.proofs.Walks as Walks
+use Rattle.arbiter.specs.Cycle.{asking}
+use Rattle.arbiter.specs.Cycle.Laws.{walked-some, walked-none}
 use Rattle.scan.proofs.walk_round.Statement.{statement}
 use Rattle.scan.proofs.walk_round.Tie as tie
 
@@ -34,14 +36,15 @@ walk-run-requires-2 c κs =
 -- both runs done
 walked : (c : tie.After-walk-run2)
     → let b = c .before .before .before .before .before .before .before .before .before .args in
-    Walks.Walked (b .s) (b .requests .now) (c .walk-run2 .result) (c .walk-run2 .last .1 .1 .0)
+    let s = b .s in
+    Walk.Walked (s .width) (s .picks) (s .head) (asking s (b .requests .now)) (c .walk-run2 .result .count) (c .walk-run2 .result .last)
+    (c .walk-run2 .last .1 .1 .0)
 walked c =
     let one = c .before .before .before .before in
     let b = one .before .before .before .before .before in
     let e = one .before .before .first-station .ensures in
-    Walks.round (b .args .s) (b .args .requests .now) (b .pre .0) (one .walk-run .result) (c .walk-run2 .result)
-    (one .walk-run .last .1 .1 .0) (c .walk-run2 .last .1 .1 .0) (Walks.told e refl (b .pre .1 .1) (one .walk-run .ensures))
-    (Walks.told refl e refl (c .walk-run2 .ensures))
+    Walk.round _ _ _ _ (b .pre .0) _ _ _ _ _ _ (Walk.told e refl (b .pre .1 .1) (one .walk-run .ensures))
+    (Walk.told refl e refl (c .walk-run2 .ensures))
 
 add-next : tie.Need-add-next
 add-next c =
@@ -63,49 +66,26 @@ same-length c = search needs
 
 returns : tie.Need-returns
 returns c =
-    let t = c .before .before .before .before in
-    let w = walked (t .before .before .before .before) in
-    (c .served .ensures ∙ ap (served _) (c .before .moved .ensures) ∙ Walks.some-granted _ _ _ _ w (omega arith), w .bytes)
+    let r = c .before .before .before .before .before .before .before .before in
+    let b = r .before .before .before .before .before .before .before .before .before .args in
+    let w = walked r in (
+      c .served .ensures ∙ ap (served _) (c .before .moved .ensures) ∙ walked-some (b .s) (b .requests .now) w (omega arith),
+      w .bytes,
+    )
 
-sub-end : tie.Need-sub-end
-sub-end c = search needs
-
-enum-told : tie.Need-enum-told
-enum-told c = search needs
-
-moved-requires-2 : tie.Need-moved-requires-2
-moved-requires-2 c κs = search needs
-
-served-requires-2 : tie.Need-served-requires-2
-served-requires-2 c κs = search needs
-
-enum-told-2 : tie.Need-enum-told-2
-enum-told-2 c = search needs
-
-served-requires-3 : tie.Need-served-requires-3
-served-requires-3 c κs = search needs
+idle-requires : tie.Need-idle-requires
+idle-requires c κs = search needs
 
 same-length-2 : tie.Need-same-length-2
 same-length-2 c = search needs
 
 returns-2 : tie.Need-returns-2
 returns-2 c =
-    let e = c .before .before .before .before .before in
-    let w = walked (e .before .before .before .before) in (
-      c .served2 .ensures
-          ∙ ap (served 0) (c .before .moved2 .ensures)
-          ∙ Walks.none-granted _ _ _ _ w (e .if1 .left) (c .before .before .enum-told .given .1),
-      w .bytes,
-    )
-
-same-length-3 : tie.Need-same-length-3
-same-length-3 c = search needs
-
-returns-3 : tie.Need-returns-3
-returns-3 c =
-    let e = c .before .before .before .before in
-    let w = walked (e .before .before .before .before) in
-    (c .served3 .ensures ∙ Walks.none-moved _ _ _ _ w _ (e .if1 .left) (c .before .enum-told2 .given .1), w .bytes)
+    let e = c .before in
+    let r = e .before .before .before .before in
+    let b = r .before .before .before .before .before .before .before .before .before .args in
+    let w = walked r in
+    (c .idle .ensures ∙ walked-none (b .s) (b .requests .now) w (e .if1 .left), w .bytes)
 
 pub walk-round-spec : {M : Type 1} → statement M
 walk-round-spec =
@@ -120,13 +100,6 @@ walk-round-spec =
     served-requires
     same-length
     returns
-    sub-end
-    enum-told
-    moved-requires-2
-    served-requires-2
-    enum-told-2
-    served-requires-3
+    idle-requires
     same-length-2
-    returns-2
-    same-length-3
-    returns-3)
+    returns-2)

@@ -6,21 +6,22 @@ use mathlib.Core.Logic.{⊎-elim}
 use native.Mathlib.Omega.{arith}
 use lib.ListN.{length, length-set}
 use borrow.Author.Tests.{eq-eqb, ne-eqb}
-use Rattle.scan.specs.Walks.{Ran}
-use Rattle.scan.proofs.Walks as Walks
+use Rattle.rules.specs.Walk.{Ran}
+use Rattle.rules.specs.Walk.Laws as Walk
+use Rattle.arbiter.specs.Cycle.{asking}
 use Rattle.scan.proofs.walk_run.Statement.{statement}
 use Rattle.scan.proofs.walk_run.Tie as tie
 
 abbrev Inv-loop : tie.InvT-loop
 Inv-loop s requests grants₀ from to count₀ last₀ i₀ grants count last i =
     (from ≤ i) × (i ≤ to) × (length grants ≡ length grants₀)
-    × Ran s requests from i (record { count = count₀; last = last₀ }) grants₀ (record { count = count; last = last }) grants
+    × Ran (s .picks) (asking s requests) from i count₀ last₀ grants₀ count last grants
 
 abbrev μ-loop : tie.MeasureT-loop
 μ-loop s requests grants₀ from to count₀ last₀ i₀ grants count last i = to - i
 
 loop-holds : tie.Need-loop-holds Inv-loop μ-loop
-loop-holds c = (omega arith, omega arith, omega arith, Walks.begin _ _ _ _ _ (omega arith))
+loop-holds c = (omega arith, omega arith, omega arith, Walk.begin _ _ _ _ _ _ (omega arith))
 
 same-length : tie.Need-same-length Inv-loop μ-loop
 same-length c = omega arith
@@ -29,7 +30,7 @@ returns : tie.Need-returns Inv-loop μ-loop
 returns c =
     let l = c .before .before .before .loop in
     let used-up : l .count ≡ c .before .before .before .before .args .s .picks = omega (arith, l .inv .3 .counted) in
-    Walks.full _ _ _ _ _ (l .i) (l .inv .0) _ _ (l .inv .3) _ (omega arith) used-up
+    Walk.full _ _ _ _ _ _ (l .i) (l .inv .0) _ _ _ (l .inv .3) _ (omega arith) used-up
 
 shared-slice-read-if2 : tie.Need-shared-slice-read-if2 Inv-loop μ-loop
 shared-slice-read-if2 c = omega arith
@@ -55,9 +56,9 @@ loop-again c =
       omega arith,
       omega arith,
       simp length-set (omega arith),
-      Walks.grant _ _ _ _ _ (l .i) (l .inv .0) _ _ (l .inv .3) (eq-eqb _ 1 (w .0 .taken)) (omega (arith, l .inv .3 .counted)) (omega arith),
+      Walk.grant _ _ _ _ _ _ (l .i) (l .inv .0) _ _ _ (l .inv .3) (eq-eqb _ 1 (w .0 .taken)) (omega (arith, l .inv .3 .counted)) (omega arith),
     ))
-    (λ w. rw (w .1, w .2, w .3) (omega arith, omega arith, omega arith, Walks.skip _ _ _ _ _ (l .i) (l .inv .0) _ _ (l .inv .3) (ne-eqb _ 1 (w .0 .left))))
+    (λ w. rw (w .1, w .2, w .3) (omega arith, omega arith, omega arith, Walk.skip _ _ _ _ _ _ (l .i) (l .inv .0) _ _ _ (l .inv .3) (ne-eqb _ 1 (w .0 .left))))
     (c .if2 .came)
 
 same-length-2 : tie.Need-same-length-2 Inv-loop μ-loop
