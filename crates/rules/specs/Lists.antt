@@ -2,7 +2,7 @@
 -- Assumes nothing.
 use Prim.Native.Nat.{ℕ, zero, suc, _+_}
 use mathlib.Core.Bool.{Bool, true, false, cond, _&&_, _||_}
-use mathlib.Core.List.{List, [], _∷_}
+use mathlib.Core.List.{List, [], _∷_, map}
 use lib.Dec.{eqb}
 pub mod Laws
 
@@ -30,6 +30,10 @@ count p (x ∷ xs) = bit (p x) + count p xs
 abbrev pub member : ℕ → List ℕ → Bool
 member w [] = false
 member w (x ∷ xs) = eqb w x || member w xs
+
+-- a byte for each number below n, 1 for those in the list
+abbrev pub marks : ℕ → List ℕ → List ℕ
+marks n xs = map (λ w. bit (member w xs)) (range 0 n)
 
 -- those standing before w: all of them if w is not there
 abbrev pub before : ℕ → List ℕ → List ℕ

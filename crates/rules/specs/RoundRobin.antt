@@ -3,11 +3,11 @@
 -- Assumes nothing.
 use Prim.Native.Nat.{ℕ, _+_, _-_, _%_}
 use mathlib.Core.Bool.{Bool}
-use mathlib.Core.List.{List, [], _∷_, _++_, map}
+use mathlib.Core.List.{List, [], _∷_, _++_}
 use lib.ListN.{take}
 use Rattle.rules.specs.declared.Head.{Head}
 use Rattle.rules.specs.declared.Head.the-variants.{None, At}
-use Rattle.rules.specs.Lists.{bit, range, filter, member, last}
+use Rattle.rules.specs.Lists.{range, filter, marks, last}
 pub mod Laws
 pub mod Known
 pub mod Trees
@@ -27,7 +27,7 @@ granted n m h asks = take m (filter asks (order n h))
 
 -- 01's grant buffer: a byte for each station, 1 if it is granted and 0 if not
 pub grants : ℕ → ℕ → Head → (ℕ → Bool) → List ℕ
-grants n m h asks = map (λ w. bit (member w (granted n m h asks))) (range 0 n)
+grants n m h asks = marks n (granted n m h asks)
 
 -- 01's next head once these are granted: "one past the one granted last in turn order"; if nobody is, a head stays and none
 -- becomes n - 1

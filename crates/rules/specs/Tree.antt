@@ -7,7 +7,7 @@ use lib.Dec.{ltb, eqb}
 use lib.ListN.{getD}
 use Rattle.rules.specs.declared.Head.{Head}
 use Rattle.rules.specs.declared.Head.the-variants.{None, At}
-use Rattle.rules.specs.Lists.{bit, range}
+use Rattle.rules.specs.Lists.{bit, range, marks}
 pub mod Laws
 
 -- a node's value, of its two bits S1 and S0
@@ -65,3 +65,7 @@ reached n t = descend n t n 1 - n
 -- whom the tree grants: the station reached, if it asks
 unfoldable pub chosen : ℕ → List ℕ → List ℕ
 chosen n t = cond (s0 (getD t (n + reached n t) 0)) (reached n t ∷ []) []
+
+-- the grant buffer: 1 for the station granted
+unfoldable pub grants : ℕ → List ℕ → List ℕ
+grants n t = marks n (chosen n t)

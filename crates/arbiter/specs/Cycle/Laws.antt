@@ -52,7 +52,7 @@ answer-some s requests c k e f = rw (e, f)
 pub answer-idle : (s : State) (requests : List ℕ) → granted (s .width) (s .picks) (s .head) (asking s requests) ≡ []
     → idle s ≡ answer s requests
 answer-idle s requests e =
-    rw (e, RoundRobin.next-idle (s .width) (s .picks) (s .head) (asking s requests) e)
+    rw (e, RoundRobin.next-after (s .width) (s .picks) (s .head) (asking s requests) [] e)
 
 -- a walk once round that granted c stations, the last of them z
 module _ (s : State) (requests : List ℕ) {c z : ℕ} {new : List ℕ} (w : Walked (s .width) (s .picks) (s .head) (asking s requests) c z new) where

@@ -92,19 +92,15 @@ pub record Allowed (s : State) : Type 0 where
   pub fit : s .picks ≤ s .width
   pub station : start (s .head) < s .width
 
-both : (a b : Bool) → (a && b) ≡ true → (a ≡ true) × (b ≡ true)
-both true b e = (refl, e)
-both false b e = absurd (true≢false (sym e))
-
 pub width-served : (n : ℕ) → (width n) .number ≡ 0 → (1 ≤ n) × (n ≤ maxWidth)
 width-served n z =
-    let t = both (leb 1 n) (leb n maxWidth) (unless-served _ 0 0 z) in
+    let t = Lists.both (leb 1 n) (leb n maxWidth) (unless-served _ 0 0 z) in
     (leb-true 1 n (t .0), leb-true n maxWidth (t .1))
 
 pub picks-served : (n m : ℕ) → (picks n m) .number ≡ 0 → (1 ≤ m) × (m ≤ 8) × (m ≤ n)
 picks-served n m z =
-    let t = both (leb 1 m && leb m 8) (leb m n) (unless-served _ 2 0 z) in
-    let u = both (leb 1 m) (leb m 8) (t .0) in
+    let t = Lists.both (leb 1 m && leb m 8) (leb m n) (unless-served _ 2 0 z) in
+    let u = Lists.both (leb 1 m) (leb m 8) (t .0) in
     (leb-true 1 m (u .0), leb-true m 8 (u .1), leb-true m n (t .1))
 
 pub one-pick-served : (m : ℕ) → (onePick m) .number ≡ 0 → m ≡ 1

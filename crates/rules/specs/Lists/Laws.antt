@@ -8,15 +8,25 @@ use native.Mathlib.Numerals.{add-one, one-add}
 use mathlib.Core.List.{List, [], _∷_, _++_, map}
 use native.Mathlib.Omega.{arith}
 use lib.Dec.{ltb, eqb, leb·suc-suc}
-use lib.ListN.{length, take, getD, length-map}
-use lib.Seq.{take-append-add}
+use lib.ListN.{length, take, getD, set, replicate, length-map, length-set, length-replicate, getD-replicate}
+use lib.Seq.{take-append-add, getD-set-same, getD-set-other, ext-getD}
 use borrow.Author.Tests.{eqb-true, eqb-false, eq-eqb, ne-eqb, lt-ltb, le-ltb}
-use Rattle.rules.specs.Lists.{bit, range, filter, count, member, before, last}
+use Rattle.rules.specs.Lists.{bit, range, filter, count, member, marks, before, last}
 
 -- by cases on a test, with its outcome in hand
 pub split : {P : Type 0} (b : Bool) → (b ≡ true → P) → (b ≡ false → P) → P
 split true f g = f refl
 split false f g = g refl
+
+-- two tests that are passed together are passed each
+pub both : (a b : Bool) → (a && b) ≡ true → (a ≡ true) × (b ≡ true)
+both true b e = (refl, e)
+both false b e = absurd (true≢false (sym e))
+
+-- a bit is 0 or 1
+pub bit-le : (b : Bool) → bit b ≤ 1
+bit-le true = omega arith
+bit-le false = omega arith
 
 -- counting along two lists, one after the other
 pub count-append : {A : Type 0} (p : A → Bool) (xs ys : List A) → count p (xs ++ ys) ≡ count p xs + count p ys
@@ -247,6 +257,31 @@ getD-table f a (suc k) (suc i) l = rw (add-suc a i, ← suc-add a i) (getD-table
 -- a table has one entry for each number
 pub length-table : (f : ℕ → ℕ) (a k : ℕ) → length (map f (range a k)) ≡ k
 length-table f a k = length-map (range a k) f ∙ length-range a k
+
+-- no marks
+pub marks-none : (n : ℕ) → replicate n 0 ≡ marks n []
+marks-none n =
+    ext-getD 0 (replicate n 0) (marks n []) (length-replicate n 0 ∙ sym (length-table _ 0 n))
+    (λ i l.
+    let k : i < n = omega (arith, length-replicate {A = ℕ} n 0) in
+    getD-replicate n i 0 0 k ∙ sym (getD-table _ 0 n i k))
+
+-- a single mark
+pub marks-one : (n w : ℕ) → w < n → set (replicate n 0) w 1 ≡ marks n (w ∷ [])
+marks-one n w station =
+    ext-getD 0 (set (replicate n 0) w 1) (marks n (w ∷ [])) (long ∙ sym (length-table _ 0 n))
+    (λ i l.
+    let k : i < n = omega (arith, long) in
+    byte i k ∙ sym (getD-table _ 0 n i k ∙ rw zero-add))
+  where
+    long : length {A = ℕ} (set (replicate n 0) w 1) ≡ n
+    long = length-set (replicate n 0) w 1 ∙ length-replicate n 0
+
+    byte : (i : ℕ) → i < n → getD (set (replicate n 0) w 1) i 0 ≡ bit (member i (w ∷ []))
+    byte i k =
+        split (eqb i w)
+        (λ t. rw (t, eqb-true i w t) (getD-set-same (replicate n 0) w 1 0 (omega (arith, length-replicate {A = ℕ} n 0))))
+        (λ f. rw f (getD-set-other (replicate n 0) w i 1 0 (eqb-false i w f) ∙ getD-replicate n i 0 0 k))
 
 -- an entry of a table is that of one of its numbers
 pub table-entry : (f : ℕ → ℕ) (x a k : ℕ) → member x (map f (range a k)) ≡ true → (i : ℕ) × (a ≤ i) × (i < a + k) × (x ≡ f i)

@@ -10,12 +10,11 @@ use native.Mathlib.Omega.{arith}
 use native.Mathlib.Nat.{mod-eq-of-lt, mod-self, mod-lt, zero-add}
 use native.Mathlib.Numerals.{add-one}
 use lib.Dec.{ltb, eqb}
-use borrow.Author.Tests.{ltb-true, ltb-false, eqb-true, eqb-false, eq-eqb}
-use lib.ListN.{length, getD, set, replicate, length-take, length-set, length-replicate, getD-replicate}
-use lib.Seq.{getD-set-same, getD-set-other, ext-getD}
+use borrow.Author.Tests.{ltb-true, ltb-false, eq-eqb}
+use lib.ListN.{length, getD, length-take}
 use Rattle.rules.specs.declared.Head.{Head}
 use Rattle.rules.specs.declared.Head.the-variants.{None, At}
-use Rattle.rules.specs.Lists.{bit, range, filter, count, member, before, last}
+use Rattle.rules.specs.Lists.{bit, range, filter, count, member, marks, before, last}
 use Rattle.rules.specs.Lists.Laws as Lists
 use Rattle.rules.specs.RoundRobin.{start, order, granted, grants, after, next}
 
@@ -204,31 +203,10 @@ pub grants-member : (n m : ℕ) (h : Head) (asks : ℕ → Bool) (w : ℕ) → w
 unfolding grants
 grants-member n m h asks w k = Lists.getD-table _ 0 n w k ∙ rw zero-add
 
--- where nobody is granted it is all 0
-pub grants-none : (n m : ℕ) (h : Head) (asks : ℕ → Bool) → granted n m h asks ≡ [] → replicate n 0 ≡ grants n m h asks
-grants-none n m h asks e =
-    ext-getD 0 (replicate n 0) (grants n m h asks) (length-replicate n 0 ∙ sym (grants-length n m h asks))
-    (λ i l.
-    let k : i < n = omega (arith, length-replicate {A = ℕ} n 0) in
-    getD-replicate n i 0 0 k ∙ sym (grants-member n m h asks i k ∙ rw e))
-
--- where one is, it has a single 1
-pub grants-one : (n m : ℕ) (h : Head) (asks : ℕ → Bool) (w : ℕ) → w < n → granted n m h asks ≡ w ∷ []
-    → set (replicate n 0) w 1 ≡ grants n m h asks
-grants-one n m h asks w station e =
-    ext-getD 0 (set (replicate n 0) w 1) (grants n m h asks) (long ∙ sym (grants-length n m h asks))
-    (λ i l.
-    let k : i < n = omega (arith, long) in
-    byte i k ∙ sym (grants-member n m h asks i k ∙ rw e))
-  where
-    long : length {A = ℕ} (set (replicate n 0) w 1) ≡ n
-    long = length-set (replicate n 0) w 1 ∙ length-replicate n 0
-
-    byte : (i : ℕ) → i < n → getD (set (replicate n 0) w 1) i 0 ≡ bit (member i (w ∷ []))
-    byte i k =
-        Lists.split (eqb i w)
-        (λ t. rw (t, eqb-true i w t) (getD-set-same (replicate n 0) w 1 0 (omega (arith, length-replicate {A = ℕ} n 0))))
-        (λ f. rw f (getD-set-other (replicate n 0) w i 1 0 (eqb-false i w f) ∙ getD-replicate n i 0 0 k))
+-- that is all there is to it
+pub grants-marks : (n m : ℕ) (h : Head) (asks : ℕ → Bool) → grants n m h asks ≡ marks n (granted n m h asks)
+unfolding grants
+grants-marks n m h asks = refl
 
 -- the next head is one past the one granted last, modulo n
 pub next-last : (n m : ℕ) (h : Head) (asks : ℕ → Bool) (front : List ℕ) (w : ℕ) → granted n m h asks ≡ front ++ (w ∷ [])
@@ -236,10 +214,15 @@ pub next-last : (n m : ℕ) (h : Head) (asks : ℕ → Bool) (front : List ℕ) 
 unfolding next
 next-last n m h asks front w e = ap (after n h) e ∙ after-last n h front w
 
--- with none granted it is the head after nobody
-pub next-idle : (n m : ℕ) (h : Head) (asks : ℕ → Bool) → granted n m h asks ≡ [] → next n m h asks ≡ after n h []
+-- it is told by whom the cycle grants
+pub next-after : (n m : ℕ) (h : Head) (asks : ℕ → Bool) (gs : List ℕ) → granted n m h asks ≡ gs → next n m h asks ≡ after n h gs
 unfolding next
-next-idle n m h asks e = ap (after n h) e
+next-after n m h asks gs e = ap (after n h) e
+
+-- after one grant it is one past it, modulo n
+pub after-one : (n : ℕ) (h : Head) (w : ℕ) → after n h (w ∷ []) ≡ At ((w + 1) % n)
+unfolding after
+after-one n h w = refl
 
 -- after nobody a head stays
 pub after-stays : (n k : ℕ) → after n (At k) [] ≡ At k

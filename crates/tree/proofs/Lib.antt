@@ -1,0 +1,2 @@
+mod Buffer
+mod Sizes

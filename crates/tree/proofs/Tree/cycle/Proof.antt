@@ -1,0 +1,86 @@
+-- `cycle` meets its contract: it asks its questions, builds the tree and grants by the descent.
+-- Assumes nothing.
+use Prim.Native.Nat.{_*_, _≤_}
+use Prim.Native.Nat.{ℕ}
+use mathlib.Core.Path.{_≡_, sym, ap, _∙_}
+use mathlib.Core.List.{List}
+use lib.ListN.{length}
+use borrow.Author.Needs.{needs}
+use Rattle.tree.specs.Calls.{Values, descended}
+use Rattle.tree.specs.Calls.Laws.{Allowed, Ready, ready, written, unwritten, tree-answer, tree-grants, tree-values, tree-length}
+use Rattle.rules.specs.Tree as Rule
+use Rattle.tree.proofs.Tree.cycle.Statement.{statement}
+use Rattle.tree.proofs.Tree.cycle.Tie as tie
+
+-- what is known once the questions have passed
+asked : (c : tie.Else1)
+    → let a = c .before .before .before .before .before .before .before .args in
+    Ready (a .self .0) (a .requests .now) (length (a .grants .now)) (length (a .nodes .now))
+asked c = ready _ _ _ _ (c .before .before .cycle .ensures) (c .if1 .left)
+
+cycle-requires : tie.Need-cycle-requires
+cycle-requires c κs = search needs
+
+refused-requires : tie.Need-refused-requires
+refused-requires c κs = search needs
+
+returns : tie.Need-returns
+returns c =
+    let v = c .before .before .before .cycle .ensures in unwritten _ _ _ _ v (c .before .if1 .taken) (c .refused .ensures)
+
+clear-requires : tie.Need-clear-requires
+clear-requires c κs = search needs
+
+build-requires : tie.Need-build-requires
+build-requires c κs =
+    let e = asked (c .before .before .before .before .before) in
+    (e .allows .some, (e .asked, e .space))
+
+grant-requires : tie.Need-grant-requires
+grant-requires c κs =
+    let u = c .before .before .before .before in
+    let k = u .before .before .before .before in
+    let f = k .before .before in
+    let b = f .before .before .before .before .before .before .before .args in
+    let e = asked f in
+    let is = u .build .ensures in
+    let s = b .self .0 in
+    let requests = b .requests .now in (
+      e .allows .some,
+      (e .allows .most, (ap length is ∙ tree-length s requests (e .allows), (rw is (tree-values s requests (e .allows)), k .clear .ensures ∙ rw (e .room)))),
+    )
+
+same-length : tie.Need-same-length
+same-length c = search needs
+
+same-length-2 : tie.Need-same-length-2
+same-length-2 c = search needs
+
+returns-2 : tie.Need-returns-2
+returns-2 c =
+    let g = c .before .before in
+    let u = g .before .before .before .before .before in
+    let k = u .before .before .before .before in
+    let f = k .before .before in
+    let b = f .before .before .before .before .before .before .before .args in
+    let e = asked f in
+    let is = u .build .ensures in
+    let s = b .self .0 in
+    written _ _ _ _ (f .before .before .cycle .ensures) (f .if1 .left)
+    (g .grant .ensures .0 ∙ ap (descended s) is ∙ tree-answer s (b .requests .now) (e .allows))
+    (g .grant .ensures .1 ∙ ap (Rule.grants (s .width)) is ∙ tree-grants s (b .requests .now) (e .allows))
+    is
+
+pub cycle-spec : {M : Type 1} → statement M
+cycle-spec =
+    tie.close
+    (tie.spec
+    cycle-requires
+    refused-requires
+    returns
+    clear-requires
+    build-requires
+    grant-requires
+    same-length
+    same-length-2
+    returns-2)

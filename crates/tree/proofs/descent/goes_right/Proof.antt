@@ -1,0 +1,51 @@
+-- `goes_right` meets its contract: the rule over all pairs, computed once, for the pair in hand.
+-- Assumes nothing.
+use Prim.Native.Nat.{ℕ, _*_, _+_, _≤_, _<_}
+use mathlib.Core.Logic.{⊎-elim, inl, inr}
+use mathlib.Core.Path.{_≡_, refl, sym, _∙_}
+use mathlib.Core.List.{[], _∷_}
+use mathlib.Core.Bool.{true, false}
+use native.Mathlib.Omega.{arith}
+use borrow.Author.Tests.{ne-eqb}
+use borrow.Author.Needs.{needs}
+use Rattle.rules.specs.Lists.{range, member}
+use Rattle.rules.specs.Lists.Laws as Lists
+use Rattle.rules.specs.Tree.Laws.{right-pair}
+use Rattle.tree.proofs.descent.goes_right.Statement.{statement}
+use Rattle.tree.proofs.descent.goes_right.Tie as tie
+
+-- pairs below 4 are among those that choose right
+small : (k : ℕ) → k < 4 → member k (0 ∷ 1 ∷ 2 ∷ 3 ∷ 7 ∷ 9 ∷ 11 ∷ 15 ∷ []) ≡ true
+small k l = Lists.member-append k (range 0 4) (7 ∷ 9 ∷ 11 ∷ 15 ∷ []) ∙ rw (Lists.member-range k 0 4 (omega arith) (omega arith))
+
+-- of the others only four
+large : (k : ℕ) → 4 ≤ k → (k ≡ 7 → ⊥) → (k ≡ 9 → ⊥) → (k ≡ 11 → ⊥) → (k ≡ 15 → ⊥)
+    → member k (0 ∷ 1 ∷ 2 ∷ 3 ∷ 7 ∷ 9 ∷ 11 ∷ 15 ∷ []) ≡ false
+large k l a b c d =
+    Lists.member-append k (range 0 4) (7 ∷ 9 ∷ 11 ∷ 15 ∷ [])
+    ∙ rw (Lists.above-range k 0 4 (omega arith), ne-eqb k 7 a, ne-eqb k 9 b, ne-eqb k 11 c, ne-eqb k 15 d)
+
+mul-match : tie.Need-mul-match
+mul-match c = search needs
+
+add-match : tie.Need-add-match
+add-match c = search needs
+
+returns : tie.Need-returns
+returns c =
+    let a = c .before in
+    sym (right-pair _ _ (a .pre .0) (a .pre .1) ∙ ⊎-elim (λ e. rw e) (⊎-elim (λ e. rw e) (⊎-elim (λ e. rw e) (λ e. rw e))) (c .match .keys1))
+
+returns-2 : tie.Need-returns-2
+returns-2 c =
+    let a = c .before .before in
+    sym (right-pair _ _ (a .pre .0) (a .pre .1) ∙ small _ (c .if1 .taken))
+
+returns-3 : tie.Need-returns-3
+returns-3 c =
+    let a = c .before .before in
+    let other = c .before .match .rest .1 in
+    sym (right-pair _ _ (a .pre .0) (a .pre .1) ∙ large _ (c .if1 .left) (λ e. other (inl e)) (λ e. other (inr (inl e))) (λ e. other (inr (inr (inl e)))) (λ e. other (inr (inr (inr e)))))
+
+pub goes-right-spec : {M : Type 1} → statement M
+goes-right-spec = tie.close (tie.spec mul-match add-match returns returns-2 returns-3)

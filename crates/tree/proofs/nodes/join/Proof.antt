@@ -1,0 +1,46 @@
+-- `join` meets its contract.
+-- Assumes nothing.
+use mathlib.Core.Path.{_∙_}
+use borrow.Author.Needs.{needs}
+use Rattle.rules.specs.Tree.{join}
+use Rattle.tree.proofs.nodes.join.Statement.{statement}
+use Rattle.tree.proofs.nodes.join.Tie as tie
+
+s1-requires : tie.Need-s1-requires
+s1-requires c κs = search needs
+
+s1-requires-2 : tie.Need-s1-requires-2
+s1-requires-2 c κs = search needs
+
+s0-requires : tie.Need-s0-requires
+s0-requires c κs = search needs
+
+s0-requires-2 : tie.Need-s0-requires-2
+s0-requires-2 c κs = search needs
+
+s1-requires-3 : tie.Need-s1-requires-3
+s1-requires-3 c κs = search needs
+
+value-requires : tie.Need-value-requires
+value-requires c κs = search needs
+
+returns : tie.Need-returns
+unfolding join
+returns c =
+    let r1 = c .before in
+    let l0 = r1 .before in
+    let r0 = l0 .before in
+    let s1 = r0 .before in
+    c .value .ensures ∙ rw (r1 .s13 .ensures, l0 .s02 .ensures, r0 .s0 .ensures, s1 .s12 .ensures, s1 .before .s1 .ensures)
+
+pub join-spec : {M : Type 1} → statement M
+join-spec =
+    tie.close
+    (tie.spec
+    s1-requires
+    s1-requires-2
+    s0-requires
+    s0-requires-2
+    s1-requires-3
+    value-requires
+    returns)

@@ -1,0 +1,2 @@
+pub mod Subtrees
+pub mod Calls
