@@ -6,7 +6,7 @@ use mathlib.Core.Bool.{Bool, true, _&&_, true≢false}
 use native.Mathlib.Omega.{arith}
 use native.Mathlib.Nat.{zero-add}
 use lib.Count.{ones, ones-ones}
-use lib.Dec.{ltb, eqb}
+use lib.Dec.{ltb, leb, eqb}
 use lib.ListN.{length, getD}
 use lib.Seq.{ext-getD}
 use borrow.Author.Tests.{ltb-true, ltb-false, lt-ltb, le-ltb, leb-true, le-leb, eqb-true, eq-eqb}
@@ -35,6 +35,11 @@ code-is m byte t =
     Lists.split (eqb byte (code (ones byte)))
     (λ e. (ones byte, leb-true (ones byte) m (rw e at t), eqb-true byte (code (ones byte)) e))
     (λ e. absurd (true≢false (sym (rw e at t))))
+
+-- its count is at most m
+pub code-few : (m byte : ℕ) → isCode m byte ≡ true → ones byte ≤ m
+unfolding isCode
+code-few m byte t = leb-true (ones byte) m (Lists.both (eqb byte (code (ones byte))) (leb (ones byte) m) t .1)
 
 -- and every such code is one
 pub is-code : (m c : ℕ) → c ≤ m → isCode m (code c) ≡ true

@@ -1,0 +1,57 @@
+-- `cycle` meets its contract: it asks its questions, and then a walk round gives the rule's answer and grants.
+-- Assumes nothing.
+use mathlib.Core.Path.{_∙_}
+use native.Mathlib.Omega.{arith}
+use lib.ListN.{length}
+use borrow.Author.Needs.{needs}
+use Rattle.arbiter.specs.Answers.Laws.{written, unwritten}
+use Rattle.arbiter.specs.Cycle.Laws.{Ready, ready}
+use Rattle.thermometer.proofs.Thermometer.cycle.Statement.{statement}
+use Rattle.thermometer.proofs.Thermometer.cycle.Tie as tie
+
+-- what is known once the questions have passed
+asked : (c : tie.Else1)
+    → let a = c .before .before .before .before .before .before .args in Ready (a .self .0) (a .requests .now) (length (a .grants .now))
+asked c = ready _ _ _ (c .before .before .cycle .ensures) (c .if1 .left)
+
+cycle-requires : tie.Need-cycle-requires
+cycle-requires c κs = search needs
+
+refused-requires : tie.Need-refused-requires
+refused-requires c κs = search needs
+
+returns : tie.Need-returns
+returns c =
+    let v = c .before .before .before .cycle .ensures in unwritten _ _ _ v (c .before .if1 .taken) (c .refused .ensures)
+
+clear-requires : tie.Need-clear-requires
+clear-requires c κs = search needs
+
+count-round-requires : tie.Need-count-round-requires
+count-round-requires c κs =
+    let k = c .before .before .before in
+    let e = asked (k .before .before) in (
+      e .allows .station,
+      (e .allows .few, (e .asked, (λ i l. e .wires i (omega (arith, e .asked)), k .clear .ensures ∙ rw (e .room)))),
+    )
+
+same-length : tie.Need-same-length
+same-length c = search needs
+
+returns-2 : tie.Need-returns-2
+returns-2 c =
+    let w = c .before .before in
+    let e = w .before .before .before .before .before .before in
+    written _ _ (e .before .before .cycle .ensures) (e .if1 .left) (w .count-round .ensures .0) (w .count-round .ensures .1)
+
+pub cycle-spec : {M : Type 1} → statement M
+cycle-spec =
+    tie.close
+    (tie.spec
+    cycle-requires
+    refused-requires
+    returns
+    clear-requires
+    count-round-requires
+    same-length
+    returns-2)

@@ -1,0 +1,2 @@
+pub mod Adder
+pub mod Runs

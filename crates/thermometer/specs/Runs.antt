@@ -1,0 +1,23 @@
+-- What a run of the walk promises. The promise of the arbiter's calls is arbiter's Cycle.
+-- Assumes nothing.
+use Prim.Native.Nat.{ℕ, _≤_, _<_}
+use mathlib.Core.Path.{_≡_}
+use mathlib.Core.Bool.{true}
+use mathlib.Core.List.{List}
+use lib.Count.{ones}
+use lib.ListN.{length, getD}
+use Rattle.rules.specs.Thermometer.{isCode}
+use Rattle.rules.specs.Walk as Walks
+use Rattle.arbiter.specs.declared.State.{State}
+use Rattle.arbiter.specs.Cycle.{asking}
+use Rattle.thermometer.specs.declared.Walk.{Walk}
+
+-- every byte is 0 or 1, and so is itself the code of a count of 0 or 1
+abbrev pub Bits : List ℕ → Type 0
+Bits bytes = (i : ℕ) → i < length bytes → getD bytes i 0 ≤ 1
+
+-- a run from one station up to another: the walk and the grant buffer before it, and those after it. The count that it carries
+-- is a code for the picks
+pub record Ran (s : State) (requests : List ℕ) (from to : ℕ) (walk : Walk) (old : List ℕ) (now : Walk) (new : List ℕ) : Type 0 where
+  pub coded : isCode (s .picks) (now .code) ≡ true
+  pub ran : Walks.Ran (s .picks) (asking s requests) from to (ones (walk .code)) (walk .last) old (ones (now .code)) (now .last) new
