@@ -2,14 +2,14 @@
 -- Assumes nothing.
 use Prim.Native.Nat.{ℕ, _-_, _<_}
 use mathlib.Core.Path.{_≡_, refl, sym}
-use mathlib.Core.Bool.{Bool, true, false, cond, not}
+use mathlib.Core.Bool.{Bool, true, false, cond, not, _&&_}
 use mathlib.Core.List.{[]}
 use native.Mathlib.Omega.{arith}
 use lib.Count.{ones, trailingZeros}
-use lib.Dec.{eqb}
+use lib.Dec.{eqb, leb}
 use Rattle.rules.specs.Lists.{range, filter}
 use Rattle.rules.specs.Lists.Laws as Lists
-use Rattle.rules.specs.Thermometer.{code}
+use Rattle.rules.specs.Thermometer.{code, isCode}
 
 -- the tests differ on a byte: as many trailing ones as ones, and the code of its ones
 abbrev differ : ℕ → Bool
@@ -26,5 +26,11 @@ alike true false e = e
 alike false true e = sym e
 alike false false e = refl
 
-pub trailing-code : (byte : ℕ) → byte < 256 → eqb (trailingZeros 8 (255 - byte)) (ones byte) ≡ eqb byte (code (ones byte))
-trailing-code byte l = alike _ _ (Lists.none-of differ 0 256 byte none-differs (omega arith) (omega arith))
+all-alike : (byte : ℕ) → byte < 256 → eqb (trailingZeros 8 (255 - byte)) (ones byte) ≡ eqb byte (code (ones byte))
+all-alike byte l = alike _ _ (Lists.none-of differ 0 256 byte none-differs (omega arith) (omega arith))
+
+-- a byte is a code for m if its ones are all trailing and at most m
+pub trailing-code : (m byte count : ℕ) → byte < 256 → count ≡ ones byte
+    → (eqb (trailingZeros 8 (255 - byte)) count && leb count m) ≡ isCode m byte
+unfolding isCode
+trailing-code m byte count l e = rw (e, all-alike byte l)

@@ -1,7 +1,7 @@
 -- One adder step for each station: the code is carried along a walk.
 -- Assumes nothing.
-use Prim.Native.Nat.{ℕ, suc, _+_, _≤_, _<_, min}
-use mathlib.Core.Path.{_≡_, refl, sym, ap, _∙_}
+use Prim.Native.Nat.{ℕ, _+_, _≤_, _<_, min}
+use mathlib.Core.Path.{_≡_, ap, _∙_}
 use mathlib.Core.Bool.{Bool, true, false, _&&_}
 use mathlib.Core.List.{List}
 use native.Mathlib.Omega.{arith}
@@ -11,7 +11,7 @@ use lib.ListN.{length, set}
 use borrow.Author.Tests.{eqb-true, eqb-false, ltb-true, ltb-false}
 use Rattle.rules.specs.Lists.{bit}
 use Rattle.rules.specs.Lists.Laws as Lists
-use Rattle.rules.specs.Thermometer.{code, isCode, add}
+use Rattle.rules.specs.Thermometer.{isCode, add}
 use Rattle.rules.specs.Thermometer.Laws.{ones-code, is-code}
 use Rattle.rules.specs.Walk.{Ran}
 use Rattle.rules.specs.Walk.Laws as Walk
@@ -23,15 +23,6 @@ ones-bit b l =
     Lists.split (eqb b 1)
     (λ t. rw (eqb-true b 1 t))
     (λ f. let none : b ≡ 0 = omega (arith, eqb-false b 1 f) in rw none)
-
--- nothing counted
-pub zero-ones : ones 0 ≡ 0
-unfolding ones
-zero-ones = refl
-
-pub zero-is-code : (m : ℕ) → isCode m 0 ≡ true
-unfolding code
-zero-is-code m = is-code m 0 (omega arith)
 
 -- the count after one step
 pub ones-add : (m a b : ℕ) → ones (add m a b) ≡ min m (ones a + ones b)

@@ -11,6 +11,11 @@ use Rattle.rules.specs.Walk as Walks
 use Rattle.arbiter.specs.declared.State.{State}
 use Rattle.arbiter.specs.Cycle.{asking}
 use Rattle.thermometer.specs.declared.Walk.{Walk}
+pub mod Laws
+
+-- no walk yet
+abbrev pub begun : Walk
+begun = record { code = 0; last = 0 }
 
 -- every byte is 0 or 1, and so is itself the code of a count of 0 or 1
 abbrev pub Bits : List ℕ → Type 0

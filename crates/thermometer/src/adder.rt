@@ -7,7 +7,6 @@ ghost use mathlib.Core.Path.{_≡_};
 ghost use Prim.Native.Nat.{_≤_};
 ghost use lib.Count.{ones};
 ghost use Rattle.rules.specs.Thermometer as Rule;
-ghost use Rattle.arbiter.specs.Questions as Questions;
 ghost use Rattle.thermometer.specs.Adder as Adder;
 
 // What the adder answers: the number of its refusal (0 when served), the place, which is always 0, and the code, 0 where it

@@ -1,15 +1,14 @@
 -- The tests of questions 2 and 7.
 -- Assumes nothing.
 use Prim.Native.Nat.{ℕ, zero, suc, _+_, _*_, _/_, _%_, _^_, _≤_, _<_}
-use mathlib.Core.Path.{_≡_, refl, sym, ap, _∙_}
-use mathlib.Core.Bool.{Bool, true, false, _&&_, true≢false, and-false}
+use mathlib.Core.Path.{_≡_, sym, ap, _∙_}
+use mathlib.Core.Bool.{true, false, _&&_, true≢false}
 use mathlib.Core.List.{map}
-use native.Mathlib.Nat.{one-mul, add-zero}
 use native.Mathlib.Omega.{arith}
 use lib.Count.{ones, ones-step, ones-cat}
 use lib.Dec.{eqb, leb}
 use lib.Pow.{pow-pos, pow-mono}
-use borrow.Author.Tests.{eqb-true, eqb-false, eq-eqb, ne-eqb, leb-true, leb-false, le-leb}
+use borrow.Author.Tests.{eqb-true, eqb-false, eq-eqb, leb-true, le-leb}
 use Rattle.rules.specs.Lists.{range, member}
 use Rattle.rules.specs.Lists.Laws as Lists
 

@@ -2,7 +2,8 @@
 -- the round-robin rule's, as in arbiter's Cycle.
 -- Assumes nothing.
 use Prim.Native.Nat.{ℕ, _*_, _<_}
-use mathlib.Core.List.{List}
+use mathlib.Core.Bool.{Bool, cond}
+use mathlib.Core.List.{List, [], _∷_}
 use lib.ListN.{length, getD}
 use Rattle.rules.specs.declared.Head.{Head}
 use Rattle.rules.specs.RoundRobin.{after}
@@ -41,11 +42,17 @@ questions s requests grantsSize nodesSize =
 abbrev pub Values : ℕ → List ℕ → Type 0
 Values n t = (u : ℕ) → u < 2 * n → getD t u 0 < 4
 
--- the answer to a state with the node buffer t: "The station reached is granted if it asks"
+-- the answer of a state once these are granted
+abbrev pub answering : State → List ℕ → Answer
+answering s gs = served (length gs) (moved s (after (s .width) (s .head) gs))
+
+-- the answer once the descent has reached a station: it "is granted if it asks"
+abbrev pub settled : State → ℕ → Bool → Answer
+settled s station asks = answering s (cond asks (station ∷ []) [])
+
+-- the answer by the node buffer t
 abbrev pub descended : State → List ℕ → Answer
-descended s t =
-    let gs = Rule.chosen (s .width) t in
-    served (length gs) (moved s (after (s .width) (s .head) gs))
+descended s t = answering s (Rule.chosen (s .width) t)
 
 -- what a cycle leaves: its answer, and the bytes that the two buffers then hold
 pub record Outcome : Type 0 where

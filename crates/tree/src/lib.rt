@@ -10,7 +10,7 @@ use arbiter::clear;
 use arbiter::refusal;
 use rules::Head;
 ghost use mathlib.Core.Path.{_≡_};
-ghost use Prim.Native.Nat.{_*_, _≤_};
+ghost use Prim.Native.Nat.{_*_, _≤_, _<_};
 ghost use lib.ListN.{length, replicate};
 ghost use Rattle.rules.specs.Tree as Rule;
 ghost use Rattle.arbiter.specs.Questions.{maxWidth};
@@ -61,7 +61,7 @@ fn opening(width: usize, picks: usize, head: Head) -> Answer
     s.opened(question::state(s))
 }
 
-// Grants the station that the descent reaches, if it asks. The next head is one past it. The grant buffer is all 0 before.
+// Grants the station that the descent reaches, if it asks. The grant buffer is all 0 before.
 fn grant(s: State, nodes: &[u8], grants: &mut [u8]) -> Answer
     requires { ⌜ 1 ≤ s .width ⌝ }
     requires { ⌜ s .width ≤ maxWidth ⌝ }
@@ -72,8 +72,21 @@ fn grant(s: State, nodes: &[u8], grants: &mut [u8]) -> Answer
     ensures { λ _. ⌜ now (grants .exit) ≡ Rule.grants (s .width) (now (nodes .entry)) ⌝ }
 {
     let station = descent::reached(s.width, nodes);
-    if nodes::s0(nodes[s.width + station]) {
+    let leaf = s.width + station;
+    let asks = nodes::s0(nodes[leaf]);
+    if asks {
         grants[station] = 1;
+    }
+    settle(s, station, asks)
+}
+
+// The answer once the descent has reached a station: if it asks it is granted, and the next head is one past it.
+fn settle(s: State, station: usize, asks: bool) -> Answer
+    requires { ⌜ station < s .width ⌝ }
+    requires { ⌜ s .width ≤ maxWidth ⌝ }
+    ensures { λ r. ⌜ r ≡ Calls.settled s station asks ⌝ }
+{
+    if asks {
         let next = (station + 1) % s.width;
         return s.moved(Head::At(next)).served(1);
     }

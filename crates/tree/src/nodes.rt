@@ -4,7 +4,6 @@ use arbiter::State;
 use rules::Head;
 ghost use mathlib.Core.Path.{_≡_};
 ghost use mathlib.Core.List.{map};
-ghost use lib.Dec.{eqb};
 ghost use Prim.Native.Nat.{_+_, _-_, _*_, _≤_};
 ghost use lib.ListN.{length, drop};
 ghost use Rattle.rules.specs.Lists.{range};
@@ -54,7 +53,14 @@ fn join_all(width: usize, nodes: &mut [u8])
 fn join(left: u8, right: u8) -> u8
     ensures { λ r. ⌜ r ≡ Rule.join left right ⌝ }
 {
-    value(s1(left) | s1(right), s0(right) | (s0(left) & !s1(right)))
+    let head_left = s1(left);
+    let head_right = s1(right);
+    let asks_left = s0(left);
+    let asks_right = s0(right);
+    value(
+        head_left | head_right,
+        asks_right | (asks_left & !head_right),
+    )
 }
 
 // The value with these bits.

@@ -2,7 +2,7 @@
 -- Assumes nothing.
 use Prim.Native.Nat.{ℕ, _+_, _≤_, _<_, min}
 use mathlib.Core.Path.{_≡_, refl, sym, ap, _∙_}
-use mathlib.Core.Bool.{Bool, true, _&&_, true≢false}
+use mathlib.Core.Bool.{Bool, true, _&&_}
 use native.Mathlib.Omega.{arith}
 use native.Mathlib.Nat.{zero-add}
 use lib.Count.{ones, ones-ones}
@@ -28,20 +28,26 @@ pub add-codes : (m a b : ℕ) → add m (code a) (code b) ≡ code (min m (a + b
 unfolding add
 add-codes m a b = rw (ones-code a, ones-code b)
 
--- a code for m is the code of a count up to m
-pub code-is : (m byte : ℕ) → isCode m byte ≡ true → (c : ℕ) × (c ≤ m) × (byte ≡ code c)
-unfolding isCode
-code-is m byte t =
-    Lists.split (eqb byte (code (ones byte)))
-    (λ e. (ones byte, leb-true (ones byte) m (rw e at t), eqb-true byte (code (ones byte)) e))
-    (λ e. absurd (true≢false (sym (rw e at t))))
+-- nothing counted
+pub zero-ones : ones 0 ≡ 0
+unfolding ones
+zero-ones = refl
 
--- its count is at most m
+pub zero-is-code : (m : ℕ) → isCode m 0 ≡ true
+unfolding isCode code ones
+zero-is-code m = le-leb 0 m (omega arith)
+
+-- a code for m is the code of its own count
+pub code-own : (m byte : ℕ) → isCode m byte ≡ true → byte ≡ code (ones byte)
+unfolding isCode
+code-own m byte t = eqb-true byte (code (ones byte)) (Lists.both (eqb byte (code (ones byte))) (leb (ones byte) m) t .0)
+
+-- and its count is at most m
 pub code-few : (m byte : ℕ) → isCode m byte ≡ true → ones byte ≤ m
 unfolding isCode
 code-few m byte t = leb-true (ones byte) m (Lists.both (eqb byte (code (ones byte))) (leb (ones byte) m) t .1)
 
--- and every such code is one
+-- every code of a count up to m is one
 pub is-code : (m c : ℕ) → c ≤ m → isCode m (code c) ≡ true
 unfolding isCode
 is-code m c l = rw (ones-code c, eq-eqb (code c) (code c) refl) (le-leb c m l)

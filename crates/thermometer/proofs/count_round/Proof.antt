@@ -6,11 +6,11 @@ use native.Mathlib.Omega.{arith}
 use lib.Count.{ones}
 use lib.ListN.{length, length-replicate}
 use borrow.Author.Needs.{needs}
+use Rattle.rules.specs.Thermometer.Laws.{zero-ones, zero-is-code}
 use Rattle.rules.specs.Walk.Laws as Walk
 use Rattle.arbiter.specs.Answers.{served}
 use Rattle.arbiter.specs.Cycle.{asking}
 use Rattle.arbiter.specs.Cycle.Laws.{walked-some, walked-none}
-use Rattle.thermometer.proofs.Steps.{zero-ones, zero-is-code}
 use Rattle.thermometer.proofs.count_round.Statement.{statement}
 use Rattle.thermometer.proofs.count_round.Tie as tie
 

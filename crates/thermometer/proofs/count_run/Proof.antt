@@ -1,14 +1,14 @@
 -- `count_run` meets its contract: at each station the run up to it is done, and the code carries its count.
 -- Assumes nothing.
 use Prim.Native.Nat.{_≤_, _-_}
-use mathlib.Core.Path.{_≡_, refl, _∙_}
+use mathlib.Core.Path.{_≡_, refl}
 use mathlib.Core.Logic.{⊎-elim}
 use mathlib.Core.Bool.{true}
 use native.Mathlib.Omega.{arith}
 use lib.ListN.{length, length-set}
 use lib.Count.{ones}
 use borrow.Author.Needs.{needs}
-use Rattle.rules.specs.Thermometer.{isCode, add}
+use Rattle.rules.specs.Thermometer.{isCode}
 use Rattle.rules.specs.Thermometer.Laws.{code-few}
 use Rattle.rules.specs.Walk as Walks
 use Rattle.rules.specs.Walk.Laws as Walk

@@ -3,12 +3,10 @@
 -- Assumes nothing.
 use Prim.Native.Nat.{ℕ, _+_, _*_, _^_, _%_, _≤_, _<_}
 use mathlib.Core.Path.{_≡_, refl, sym, ap, _∙_}
-use mathlib.Core.Bool.{true, false}
-use mathlib.Core.List.{List, [], _∷_}
-use native.Mathlib.Omega.{arith}
+use mathlib.Core.Bool.{Bool, true, false}
+use mathlib.Core.List.{List}
 use lib.ListN.{length, getD, set, replicate}
 use Rattle.rules.specs.declared.Head.the-variants.{At}
-use Rattle.rules.specs.Lists.{marks}
 use Rattle.rules.specs.Lists.Laws as Lists
 use Rattle.rules.specs.RoundRobin.{start, granted}
 use Rattle.rules.specs.RoundRobin.Laws as RoundRobin
@@ -22,9 +20,9 @@ use Rattle.arbiter.specs.Questions.{_then_}
 use Rattle.arbiter.specs.Questions.Laws.{then-served, width-served, tree-width-served, one-pick-served, head-served, length-served}
 use Rattle.arbiter.specs.Answers.{moved, served, refused}
 use Rattle.arbiter.specs.Answers.Laws.{if-passed, if-refused}
-use Rattle.arbiter.specs.Cycle.{asking, answer, idle, granting}
+use Rattle.arbiter.specs.Cycle.{asking, answer, granting}
 use Rattle.tree.specs.Subtrees.Laws.{chosen-granted}
-use Rattle.tree.specs.Calls.{Outcome, Values, state, questions, descended, cycle}
+use Rattle.tree.specs.Calls.{Outcome, Values, state, questions, settled, descended, cycle}
 
 -- what is known of a state once 1, 2, 3 and 4 have passed
 pub record Allowed (s : State) : Type 0 where
@@ -98,30 +96,29 @@ module _ {r : Verdict} (s : State) (requests former formerNodes : List ℕ)
   unfolding cycle
   unwritten n a = outcome (cycle s requests former formerNodes) (if-refused _ e n (rw (a, e)))
 
+-- the station reached asks, or it does not
+pub settled-one : (s : State) (w : ℕ) → served 1 (moved s (At ((w + 1) % s .width))) ≡ settled s w true
+settled-one s w = rw (RoundRobin.after-one (s .width) (s .head) w)
+
 module _ (s : State) (t : List ℕ) where
-  abbrev n : ℕ
-  n = s .width
-
   abbrev r : ℕ
-  r = Rule.reached n t
+  r = Rule.reached (s .width) t
 
-  -- the station reached asks
-  pub descended-one : Rule.s0 (getD t (n + r) 0) ≡ true → served 1 (moved s (At ((r + 1) % n))) ≡ descended s t
+  abbrev asks : Bool
+  asks = Rule.s0 (getD t (s .width + r) 0)
+
+  pub settled-descended : settled s r asks ≡ descended s t
   unfolding Rule.chosen
-  descended-one e = rw (e, RoundRobin.after-one n (s .head) r)
+  settled-descended = refl
 
-  pub grants-one : 1 ≤ n → Rule.s0 (getD t (n + r) 0) ≡ true → set (replicate n 0) r 1 ≡ Rule.grants n t
+  -- and the grant buffer
+  pub grants-one : 1 ≤ s .width → asks ≡ true → set (replicate (s .width) 0) r 1 ≡ Rule.grants (s .width) t
   unfolding Rule.chosen Rule.grants
-  grants-one some e = rw e (Lists.marks-one n r (Tree.reached-station n t some))
+  grants-one some e = rw e (Lists.marks-one (s .width) r (Tree.reached-station (s .width) t some))
 
-  -- it does not
-  pub descended-none : Rule.s0 (getD t (n + r) 0) ≡ false → idle s ≡ descended s t
-  unfolding Rule.chosen
-  descended-none e = rw e
-
-  pub grants-none : Rule.s0 (getD t (n + r) 0) ≡ false → replicate n 0 ≡ Rule.grants n t
+  pub grants-none : asks ≡ false → replicate (s .width) 0 ≡ Rule.grants (s .width) t
   unfolding Rule.chosen Rule.grants
-  grants-none e = rw e (Lists.marks-none n)
+  grants-none e = rw e (Lists.marks-none (s .width))
 
 module _ (s : State) (requests : List ℕ) (a : Allowed s) where
   abbrev tree : List ℕ

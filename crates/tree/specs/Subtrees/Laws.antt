@@ -3,14 +3,14 @@
 -- Assumes nothing.
 use Prim.Native.Nat.{ℕ, zero, suc, _+_, _-_, _*_, _^_, _≤_, _<_}
 use mathlib.Core.Path.{_≡_, refl, sym, ap, _∙_}
-use mathlib.Core.Bool.{Bool, true, false, cond, _&&_}
-use mathlib.Core.List.{List, [], _∷_, _++_, append-nil, append-assoc}
+use mathlib.Core.Bool.{Bool, true, false, cond}
+use mathlib.Core.List.{List, [], _∷_, _++_}
 use native.Mathlib.Nat.{zero-add, zero-mul, mul-one, mul-add, add-mul, suc-mul, two-pow-succ}
 use native.Mathlib.Omega.{arith}
 use lib.Dec.{eqb, ltb, leb}
 use lib.ListN.{length, getD}
 use lib.Pow.{pow-pos, pow-mono}
-use borrow.Author.Tests.{eqb-true, eqb-false, ltb-true, ltb-false, lt-ltb, le-ltb, leb-true, leb-false, le-leb, lt-leb}
+use borrow.Author.Tests.{eqb-true, eqb-false, ltb-true, ltb-false, lt-ltb, le-ltb, leb-true, le-leb, lt-leb}
 use Rattle.rules.specs.declared.Head.{Head}
 use Rattle.rules.specs.declared.Head.the-variants.{None, At}
 use Rattle.rules.specs.Lists.{bit, range, filter, count, before}
@@ -19,7 +19,7 @@ use Rattle.rules.specs.RoundRobin.{start, order, granted}
 use Rattle.rules.specs.RoundRobin.Laws as RoundRobin
 use Rattle.rules.specs.Tree.{value, s1, s0, headAt, leaf, join, nodes, goesRight, child, descend, reached, chosen}
 use Rattle.rules.specs.Tree.Laws as Tree
-use Rattle.tree.specs.Subtrees.{inside, from, some, asked, subtree}
+use Rattle.tree.specs.Subtrees.{inside, from, some, subtree}
 
 -- those that ask of the stations from one up to another
 abbrev span : (ℕ → Bool) → ℕ → ℕ → List ℕ

@@ -1,7 +1,7 @@
 -- `count` meets its contract.
 -- Assumes nothing.
 use native.Mathlib.Omega.{arith}
-use lib.Count.{ones, ones-le}
+use lib.Count.{ones-le}
 use borrow.Author.Needs.{needs}
 use Rattle.thermometer.proofs.adder.count.Statement.{statement}
 use Rattle.thermometer.proofs.adder.count.Tie as tie

@@ -1,13 +1,10 @@
 -- `cycle` meets its contract: it asks its questions, builds the tree and grants by the descent.
 -- Assumes nothing.
-use Prim.Native.Nat.{_*_, _≤_}
-use Prim.Native.Nat.{ℕ}
-use mathlib.Core.Path.{_≡_, sym, ap, _∙_}
-use mathlib.Core.List.{List}
+use mathlib.Core.Path.{ap, _∙_}
 use lib.ListN.{length}
 use borrow.Author.Needs.{needs}
-use Rattle.tree.specs.Calls.{Values, descended}
-use Rattle.tree.specs.Calls.Laws.{Allowed, Ready, ready, written, unwritten, tree-answer, tree-grants, tree-values, tree-length}
+use Rattle.tree.specs.Calls.{descended}
+use Rattle.tree.specs.Calls.Laws.{Ready, ready, written, unwritten, tree-answer, tree-grants, tree-values, tree-length}
 use Rattle.rules.specs.Tree as Rule
 use Rattle.tree.proofs.Tree.cycle.Statement.{statement}
 use Rattle.tree.proofs.Tree.cycle.Tie as tie

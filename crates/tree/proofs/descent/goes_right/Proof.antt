@@ -1,8 +1,8 @@
 -- `goes_right` meets its contract: the rule over all pairs, computed once, for the pair in hand.
 -- Assumes nothing.
-use Prim.Native.Nat.{ℕ, _*_, _+_, _≤_, _<_}
+use Prim.Native.Nat.{ℕ, _+_, _*_, _≤_, _<_}
 use mathlib.Core.Logic.{⊎-elim, inl, inr}
-use mathlib.Core.Path.{_≡_, refl, sym, _∙_}
+use mathlib.Core.Path.{_≡_, sym, _∙_}
 use mathlib.Core.List.{[], _∷_}
 use mathlib.Core.Bool.{true, false}
 use native.Mathlib.Omega.{arith}
@@ -34,18 +34,26 @@ add-match c = search needs
 returns : tie.Need-returns
 returns c =
     let a = c .before in
-    sym (right-pair _ _ (a .pre .0) (a .pre .1) ∙ ⊎-elim (λ e. rw e) (⊎-elim (λ e. rw e) (⊎-elim (λ e. rw e) (λ e. rw e))) (c .match .keys1))
+    sym
+    (right-pair (a .args .left) (a .args .right) (a .pre .0) (a .pre .1)
+    ∙ ⊎-elim (λ e. rw e) (⊎-elim (λ e. rw e) (⊎-elim (λ e. rw e) (λ e. rw e))) (c .match .keys1))
 
 returns-2 : tie.Need-returns-2
 returns-2 c =
     let a = c .before .before in
-    sym (right-pair _ _ (a .pre .0) (a .pre .1) ∙ small _ (c .if1 .taken))
+    let k = a .args .left * 4 + a .args .right in
+    let under : k < 4 = omega (arith, c .if1 .taken) in
+    sym (right-pair (a .args .left) (a .args .right) (a .pre .0) (a .pre .1) ∙ small k under)
 
 returns-3 : tie.Need-returns-3
 returns-3 c =
     let a = c .before .before in
     let other = c .before .match .rest .1 in
-    sym (right-pair _ _ (a .pre .0) (a .pre .1) ∙ large _ (c .if1 .left) (λ e. other (inl e)) (λ e. other (inr (inl e))) (λ e. other (inr (inr (inl e)))) (λ e. other (inr (inr (inr e)))))
+    let k = a .args .left * 4 + a .args .right in
+    let over : 4 ≤ k = omega (arith, c .if1 .left) in
+    sym
+    (right-pair (a .args .left) (a .args .right) (a .pre .0) (a .pre .1)
+    ∙ large k over (λ e. other (inl e)) (λ e. other (inr (inl e))) (λ e. other (inr (inr (inl e)))) (λ e. other (inr (inr (inr e)))))
 
 pub goes-right-spec : {M : Type 1} → statement M
 goes-right-spec = tie.close (tie.spec mul-match add-match returns returns-2 returns-3)

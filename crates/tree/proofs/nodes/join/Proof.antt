@@ -18,29 +18,18 @@ s0-requires c κs = search needs
 s0-requires-2 : tie.Need-s0-requires-2
 s0-requires-2 c κs = search needs
 
-s1-requires-3 : tie.Need-s1-requires-3
-s1-requires-3 c κs = search needs
-
 value-requires : tie.Need-value-requires
 value-requires c κs = search needs
 
 returns : tie.Need-returns
 unfolding join
 returns c =
-    let r1 = c .before in
-    let l0 = r1 .before in
-    let r0 = l0 .before in
-    let s1 = r0 .before in
-    c .value .ensures ∙ rw (r1 .s13 .ensures, l0 .s02 .ensures, r0 .s0 .ensures, s1 .s12 .ensures, s1 .before .s1 .ensures)
+    let asks-right = c .before in
+    let asks-left = asks-right .before in
+    let head-right = asks-left .before in
+    c .value .ensures
+    ∙ rw (asks-right .s02 .ensures, asks-left .s0 .ensures, head-right .s12 .ensures, head-right .before .s1 .ensures)
 
 pub join-spec : {M : Type 1} → statement M
 join-spec =
-    tie.close
-    (tie.spec
-    s1-requires
-    s1-requires-2
-    s0-requires
-    s0-requires-2
-    s1-requires-3
-    value-requires
-    returns)
+    tie.close (tie.spec s1-requires s1-requires-2 s0-requires s0-requires-2 value-requires returns)

@@ -1,0 +1,44 @@
+-- `settle` meets its contract.
+-- Assumes nothing.
+use mathlib.Core.Bool.{Bool}
+use mathlib.Core.Path.{sym, ap, _∙_}
+use borrow.Author.Needs.{needs}
+use Rattle.arbiter.specs.Answers.{served}
+use Rattle.tree.specs.Calls.{settled}
+use Rattle.tree.specs.Calls.Laws.{settled-one}
+use Rattle.tree.proofs.settle.Statement.{statement}
+use Rattle.tree.proofs.settle.Tie as tie
+
+add-next : tie.Need-add-next
+add-next c = search needs
+
+rem-next : tie.Need-rem-next
+rem-next c = search needs
+
+moved-requires : tie.Need-moved-requires
+moved-requires c κs = search needs
+
+served-requires : tie.Need-served-requires
+served-requires c κs = search needs
+
+returns : tie.Need-returns
+returns c =
+    let t = c .before .before .before in
+    let a = t .before .args in
+    c .served .ensures
+    ∙ ap (served 1) (c .before .moved .ensures)
+    ∙ settled-one (a .s) (a .station)
+    ∙ ap (λ (b : Bool). settled (a .s) (a .station) b) (sym (t .if1 .taken))
+
+idle-requires : tie.Need-idle-requires
+idle-requires c κs = search needs
+
+returns-2 : tie.Need-returns-2
+returns-2 c =
+    let a = c .before .before .args in
+    c .idle .ensures ∙ ap (λ (b : Bool). settled (a .s) (a .station) b) (sym (c .before .if1 .left))
+
+pub settle-spec : {M : Type 1} → statement M
+settle-spec =
+    tie.close
+    (tie.spec add-next rem-next moved-requires served-requires returns idle-requires returns-2)
