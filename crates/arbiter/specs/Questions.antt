@@ -13,6 +13,7 @@ use Rattle.arbiter.specs.declared.State.{State}
 use Rattle.arbiter.specs.declared.question.Verdict.{Verdict}
 use Rattle.arbiter.specs.Places.{places, ones}
 pub mod Laws
+pub mod Known
 
 -- no refusal
 abbrev pub passed : Verdict

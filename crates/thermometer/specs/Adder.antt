@@ -7,6 +7,7 @@ use Rattle.arbiter.specs.Questions as Questions
 use Rattle.arbiter.specs.Questions.{_then_}
 use Rattle.arbiter.specs.Answers.{ifPassed}
 use Rattle.thermometer.specs.declared.adder.Sum.{Sum}
+pub mod Known
 
 -- 3, then 13
 abbrev pub questions : ℕ → ℕ → ℕ → Verdict
