@@ -96,9 +96,10 @@ impl State {
     pub fn idle(self) -> Answer
         ensures { λ r. ⌜ r ≡ Cycle.idle self ⌝ }
     {
+        let last = self.last_station();
         let head = self.head;
         match head {
-            Head::None => self.moved(Head::At(self.last_station())).served(0),
+            Head::None => self.moved(Head::At(last)).served(0),
             Head::At(_) => self.served(0),
         }
     }

@@ -1,19 +1,17 @@
 -- The tree's calls with any input: 01, "The tree" and "Questions each call asks, in this order". Grants, count and next head are
 -- the round-robin rule's, as in arbiter's Cycle.
 -- Assumes nothing.
-use Prim.Native.Nat.{ℕ, _*_, _<_}
-use mathlib.Core.Bool.{Bool, cond}
-use mathlib.Core.List.{List, [], _∷_}
-use lib.ListN.{length, getD}
+use Prim.Native.Nat.{ℕ}
+use mathlib.Core.List.{List}
+use lib.ListN.{length}
 use Rattle.rules.specs.declared.Head.{Head}
-use Rattle.rules.specs.RoundRobin.{after}
 use Rattle.rules.specs.Tree as Rule
 use Rattle.arbiter.specs.declared.Answer.{Answer}
 use Rattle.arbiter.specs.declared.State.{State}
 use Rattle.arbiter.specs.declared.question.Verdict.{Verdict}
 use Rattle.arbiter.specs.Questions as Questions
 use Rattle.arbiter.specs.Questions.{_then_}
-use Rattle.arbiter.specs.Answers.{moved, served, refused, ifPassed, opened}
+use Rattle.arbiter.specs.Answers.{refused, ifPassed, opened}
 use Rattle.arbiter.specs.Cycle.{asking, answer, granting}
 pub mod Laws
 
@@ -37,22 +35,6 @@ questions s requests grantsSize nodesSize =
     then Questions.writeLength (s .width) grantsSize
     then Questions.nodesLength (s .width) nodesSize
     then Questions.bits 0 requests
-
--- every byte of a node buffer for n stations is a node's value
-abbrev pub Values : ℕ → List ℕ → Type 0
-Values n t = (u : ℕ) → u < 2 * n → getD t u 0 < 4
-
--- the answer of a state once these are granted
-abbrev pub answering : State → List ℕ → Answer
-answering s gs = served (length gs) (moved s (after (s .width) (s .head) gs))
-
--- the answer once the descent has reached a station: it "is granted if it asks"
-abbrev pub settled : State → ℕ → Bool → Answer
-settled s station asks = answering s (cond asks (station ∷ []) [])
-
--- the answer by the node buffer t
-abbrev pub descended : State → List ℕ → Answer
-descended s t = answering s (Rule.chosen (s .width) t)
 
 -- what a cycle leaves: its answer, and the bytes that the two buffers then hold
 pub record Outcome : Type 0 where

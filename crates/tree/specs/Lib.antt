@@ -1,2 +1,3 @@
 pub mod Subtrees
+pub mod Steps
 pub mod Calls

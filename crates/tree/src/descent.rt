@@ -3,7 +3,7 @@ ghost use mathlib.Core.Path.{_≡_};
 ghost use Prim.Native.Nat.{_+_, _*_, _≤_, _<_};
 ghost use lib.ListN.{length, getD};
 ghost use Rattle.rules.specs.Tree as Rule;
-ghost use Rattle.tree.specs.Calls.{Values};
+ghost use Rattle.tree.specs.Steps.{Values};
 
 // The station that the descent reaches.
 pub(crate) fn reached(width: usize, nodes: &[u8]) -> usize
@@ -34,7 +34,8 @@ fn child(nodes: &[u8], u: usize) -> usize
     left
 }
 
-// The choice at a node whose children have these values, by the number of the pair, 4 × left + right.
+// The choice at a node whose children have these values, by the number of the pair, 4 × left + right: right where the left is 0,
+// where the right is 3, and for the pair of 2 and 1.
 fn goes_right(left: u8, right: u8) -> bool
     requires { ⌜ left < 4 ⌝ }
     requires { ⌜ right < 4 ⌝ }
@@ -42,7 +43,8 @@ fn goes_right(left: u8, right: u8) -> bool
 {
     match left * 4 + right {
         0..=3 => true,
-        7 | 9 | 11 | 15 => true,
+        7 | 11 | 15 => true,
+        9 => true,
         _ => false,
     }
 }

@@ -15,6 +15,7 @@ ghost use lib.ListN.{length, replicate};
 ghost use Rattle.rules.specs.Tree as Rule;
 ghost use Rattle.arbiter.specs.Questions.{maxWidth};
 ghost use Rattle.tree.specs.Calls as Calls;
+ghost use Rattle.tree.specs.Steps as Steps;
 
 // A state that the tree serves.
 pub struct Tree(pub State);
@@ -66,9 +67,9 @@ fn grant(s: State, nodes: &[u8], grants: &mut [u8]) -> Answer
     requires { ⌜ 1 ≤ s .width ⌝ }
     requires { ⌜ s .width ≤ maxWidth ⌝ }
     requires { ⌜ length (now nodes) ≡ 2 * s .width ⌝ }
-    requires { ⌜ Calls.Values (s .width) (now nodes) ⌝ }
+    requires { ⌜ Steps.Values (s .width) (now nodes) ⌝ }
     requires { ⌜ now grants ≡ replicate (s .width) 0 ⌝ }
-    ensures { λ r. ⌜ r ≡ Calls.descended s (now (nodes .entry)) ⌝ }
+    ensures { λ r. ⌜ r ≡ Steps.descended s (now (nodes .entry)) ⌝ }
     ensures { λ _. ⌜ now (grants .exit) ≡ Rule.grants (s .width) (now (nodes .entry)) ⌝ }
 {
     let station = descent::reached(s.width, nodes);
@@ -84,7 +85,7 @@ fn grant(s: State, nodes: &[u8], grants: &mut [u8]) -> Answer
 fn settle(s: State, station: usize, asks: bool) -> Answer
     requires { ⌜ station < s .width ⌝ }
     requires { ⌜ s .width ≤ maxWidth ⌝ }
-    ensures { λ r. ⌜ r ≡ Calls.settled s station asks ⌝ }
+    ensures { λ r. ⌜ r ≡ Steps.settled s station asks ⌝ }
 {
     if asks {
         let next = (station + 1) % s.width;

@@ -56,8 +56,9 @@ answer-idle s requests e =
 
 -- a walk once round that granted c stations, the last of them z
 module _ (s : State) (requests : List ℕ) {c z : ℕ} {new : List ℕ} (w : Walked (s .width) (s .picks) (s .head) (asking s requests) c z new) where
-  pub walked-some : 0 < c → served c (moved s (At ((z + 1) % s .width))) ≡ answer s requests
-  walked-some some = answer-some s requests c _ (w .counted) (w .last some)
+  -- k is the count that the call has in hand
+  pub walked-some : {k : ℕ} → k ≡ c → 0 < c → served k (moved s (At ((z + 1) % s .width))) ≡ answer s requests
+  walked-some {k = k} e some = answer-some s requests k _ (e ∙ w .counted) (w .last some)
 
   pub walked-none : c ≡ 0 → idle s ≡ answer s requests
   walked-none e = answer-idle s requests (Lists.empty _ (sym (w .counted) ∙ e))

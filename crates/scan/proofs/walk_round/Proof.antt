@@ -69,7 +69,7 @@ returns c =
     let r = c .before .before .before .before .before .before .before .before in
     let b = r .before .before .before .before .before .before .before .before .before .args in
     let w = walked r in (
-      c .served .ensures ∙ ap (served _) (c .before .moved .ensures) ∙ walked-some (b .s) (b .requests .now) w (omega arith),
+      c .served .ensures ∙ ap (served _) (c .before .moved .ensures) ∙ walked-some (b .s) (b .requests .now) w refl (omega arith),
       w .bytes,
     )
 

@@ -84,7 +84,7 @@ returns c =
     let w = walked r in (
       c .served .ensures
           ∙ ap (served _) (c .before .moved .ensures)
-          ∙ rw (k .count .ensures) (walked-some (b .s) (b .requests .now) w (omega (arith, k .count .ensures))),
+          ∙ walked-some (b .s) (b .requests .now) w (k .count .ensures) (omega (arith, k .count .ensures)),
       w .bytes,
     )
 

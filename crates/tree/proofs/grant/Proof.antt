@@ -8,7 +8,7 @@ use lib.ListN.{length, getD, length-set, length-replicate}
 use borrow.Author.Needs.{needs}
 use Rattle.rules.specs.Tree.{s0, reached}
 use Rattle.rules.specs.Tree.Laws.{reached-station}
-use Rattle.tree.specs.Calls.Laws.{settled-descended, grants-one, grants-none}
+use Rattle.tree.specs.Steps.Laws.{settled-same, settled-descended, grants-one, grants-none}
 use Rattle.tree.proofs.grant.Statement.{statement}
 use Rattle.tree.proofs.grant.Tie as tie
 
@@ -56,7 +56,7 @@ returns c =
     let e = k .reached .ensures in
     let asks : a .s0 .result ≡ s0 (getD nodes (s .width + reached (s .width) nodes) 0) =
     a .s0 .ensures ∙ ap (λ (w : ℕ). s0 (getD nodes (s .width + w) 0)) e in (
-      c .settle .ensures ∙ rw (asks, e) (settled-descended s nodes),
+      c .settle .ensures ∙ settled-same s e asks ∙ settled-descended s nodes,
       ⊎-elim
           (λ w. w .1 ∙ rw (b .pre .1 .1 .1 .1, e) (grants-one s nodes (b .pre .0) (sym asks ∙ w .0 .taken)))
           (λ w. w .1 ∙ b .pre .1 .1 .1 .1 ∙ grants-none s nodes (sym asks ∙ w .0 .left))

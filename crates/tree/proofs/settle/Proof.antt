@@ -4,8 +4,8 @@ use mathlib.Core.Bool.{Bool}
 use mathlib.Core.Path.{sym, ap, _∙_}
 use borrow.Author.Needs.{needs}
 use Rattle.arbiter.specs.Answers.{served}
-use Rattle.tree.specs.Calls.{settled}
-use Rattle.tree.specs.Calls.Laws.{settled-one}
+use Rattle.tree.specs.Steps.{settled}
+use Rattle.tree.specs.Steps.Laws.{settled-one}
 use Rattle.tree.proofs.settle.Statement.{statement}
 use Rattle.tree.proofs.settle.Tie as tie
 

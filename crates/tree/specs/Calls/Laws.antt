@@ -1,13 +1,10 @@
 -- Laws of the tree's calls: what is known once the questions have passed, how a call meets its definition, and that the descent
 -- gives the answer and the grants of the round-robin rule.
 -- Assumes nothing.
-use Prim.Native.Nat.{ℕ, _+_, _*_, _^_, _%_, _≤_, _<_}
+use Prim.Native.Nat.{ℕ, _*_, _^_, _≤_, _<_}
 use mathlib.Core.Path.{_≡_, refl, sym, ap, _∙_}
-use mathlib.Core.Bool.{Bool, true, false}
 use mathlib.Core.List.{List}
-use lib.ListN.{length, getD, set, replicate}
-use Rattle.rules.specs.declared.Head.the-variants.{At}
-use Rattle.rules.specs.Lists.Laws as Lists
+use lib.ListN.{length}
 use Rattle.rules.specs.RoundRobin.{start, granted}
 use Rattle.rules.specs.RoundRobin.Laws as RoundRobin
 use Rattle.rules.specs.Tree as Rule
@@ -18,11 +15,12 @@ use Rattle.arbiter.specs.declared.question.Verdict.{Verdict}
 use Rattle.arbiter.specs.Questions as Questions
 use Rattle.arbiter.specs.Questions.{_then_}
 use Rattle.arbiter.specs.Questions.Laws.{then-served, width-served, tree-width-served, one-pick-served, head-served, length-served}
-use Rattle.arbiter.specs.Answers.{moved, served, refused}
+use Rattle.arbiter.specs.Answers.{refused}
 use Rattle.arbiter.specs.Answers.Laws.{if-passed, if-refused}
 use Rattle.arbiter.specs.Cycle.{asking, answer, granting}
 use Rattle.tree.specs.Subtrees.Laws.{chosen-granted}
-use Rattle.tree.specs.Calls.{Outcome, Values, state, questions, settled, descended, cycle}
+use Rattle.tree.specs.Calls.{Outcome, state, questions, cycle}
+use Rattle.tree.specs.Steps.{Values, descended}
 
 -- what is known of a state once 1, 2, 3 and 4 have passed
 pub record Allowed (s : State) : Type 0 where
@@ -95,30 +93,6 @@ module _ {r : Verdict} (s : State) (requests former formerNodes : List ℕ)
       → let o = cycle s requests former formerNodes in (x ≡ o .answer) × ((former ≡ o .grants) × (formerNodes ≡ o .nodes))
   unfolding cycle
   unwritten n a = outcome (cycle s requests former formerNodes) (if-refused _ e n (rw (a, e)))
-
--- the station reached asks, or it does not
-pub settled-one : (s : State) (w : ℕ) → served 1 (moved s (At ((w + 1) % s .width))) ≡ settled s w true
-settled-one s w = rw (RoundRobin.after-one (s .width) (s .head) w)
-
-module _ (s : State) (t : List ℕ) where
-  abbrev r : ℕ
-  r = Rule.reached (s .width) t
-
-  abbrev asks : Bool
-  asks = Rule.s0 (getD t (s .width + r) 0)
-
-  pub settled-descended : settled s r asks ≡ descended s t
-  unfolding Rule.chosen
-  settled-descended = refl
-
-  -- and the grant buffer
-  pub grants-one : 1 ≤ s .width → asks ≡ true → set (replicate (s .width) 0) r 1 ≡ Rule.grants (s .width) t
-  unfolding Rule.chosen Rule.grants
-  grants-one some e = rw e (Lists.marks-one (s .width) r (Tree.reached-station (s .width) t some))
-
-  pub grants-none : asks ≡ false → replicate (s .width) 0 ≡ Rule.grants (s .width) t
-  unfolding Rule.chosen Rule.grants
-  grants-none e = rw e (Lists.marks-none (s .width))
 
 module _ (s : State) (requests : List ℕ) (a : Allowed s) where
   abbrev tree : List ℕ

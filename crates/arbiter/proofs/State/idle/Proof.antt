@@ -16,11 +16,11 @@ use Rattle.arbiter.proofs.State.idle.Tie as tie
 stays : (n : ℕ) (h : Head) (k : ℕ) → h ≡ At k → h ≡ after n h []
 stays n h k e = rw e (sym (after-stays n k))
 
-enum-told : tie.Need-enum-told
-enum-told c = search needs
-
 last-station-requires : tie.Need-last-station-requires
 last-station-requires c κs = search needs
+
+enum-told : tie.Need-enum-told
+enum-told c = search needs
 
 moved-requires : tie.Need-moved-requires
 moved-requires c κs = search needs
@@ -37,21 +37,21 @@ served-requires-2 c κs = search needs
 returns : tie.Need-returns
 returns c =
     let m = c .before in
-    let to = m .before .last-station .ensures in
-    let none = m .before .before .enum-told .given .1 in
+    let none = m .before .enum-told .given .1 in
+    let to = m .before .before .before .last-station .ensures in
     c .served .ensures ∙ ap (served 0) (m .moved .ensures) ∙ rw (to, none, after-none _)
 
 returns-2 : tie.Need-returns-2
 returns-2 c =
-    let self = c .before .before .before .args .self in
+    let self = c .before .before .before .before .args .self in
     c .served2 .ensures ∙ ap (λ (h : Head). served 0 (moved self h)) (stays (self .width) (self .head) _ (c .before .enum-told2 .given .1))
 
 pub idle-spec : {M : Type 1} → statement M
 idle-spec =
     tie.close
     (tie.spec
-    enum-told
     last-station-requires
+    enum-told
     moved-requires
     served-requires
     enum-told-2

@@ -3,7 +3,7 @@
 use mathlib.Core.Path.{ap, _∙_}
 use lib.ListN.{length}
 use borrow.Author.Needs.{needs}
-use Rattle.tree.specs.Calls.{descended}
+use Rattle.tree.specs.Steps.{descended}
 use Rattle.tree.specs.Calls.Laws.{Ready, ready, written, unwritten, tree-answer, tree-grants, tree-values, tree-length}
 use Rattle.rules.specs.Tree as Rule
 use Rattle.tree.proofs.Tree.cycle.Statement.{statement}

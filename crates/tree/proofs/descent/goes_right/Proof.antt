@@ -36,24 +36,29 @@ returns c =
     let a = c .before in
     sym
     (right-pair (a .args .left) (a .args .right) (a .pre .0) (a .pre .1)
-    ∙ ⊎-elim (λ e. rw e) (⊎-elim (λ e. rw e) (⊎-elim (λ e. rw e) (λ e. rw e))) (c .match .keys1))
+    ∙ ⊎-elim (λ e. rw e) (⊎-elim (λ e. rw e) (λ e. rw e)) (c .match .keys1))
 
 returns-2 : tie.Need-returns-2
 returns-2 c =
+    let a = c .before in
+    sym (right-pair (a .args .left) (a .args .right) (a .pre .0) (a .pre .1) ∙ rw (c .match .keys2))
+
+returns-3 : tie.Need-returns-3
+returns-3 c =
     let a = c .before .before in
     let k = a .args .left * 4 + a .args .right in
     let under : k < 4 = omega (arith, c .if1 .taken) in
     sym (right-pair (a .args .left) (a .args .right) (a .pre .0) (a .pre .1) ∙ small k under)
 
-returns-3 : tie.Need-returns-3
-returns-3 c =
+returns-4 : tie.Need-returns-4
+returns-4 c =
     let a = c .before .before in
-    let other = c .before .match .rest .1 in
+    let none = c .before .match .rest in
     let k = a .args .left * 4 + a .args .right in
     let over : 4 ≤ k = omega (arith, c .if1 .left) in
     sym
     (right-pair (a .args .left) (a .args .right) (a .pre .0) (a .pre .1)
-    ∙ large k over (λ e. other (inl e)) (λ e. other (inr (inl e))) (λ e. other (inr (inr (inl e)))) (λ e. other (inr (inr (inr e)))))
+    ∙ large k over (λ e. none .0 .1 (inl e)) (none .1) (λ e. none .0 .1 (inr (inl e))) (λ e. none .0 .1 (inr (inr e))))
 
 pub goes-right-spec : {M : Type 1} → statement M
-goes-right-spec = tie.close (tie.spec mul-match add-match returns returns-2 returns-3)
+goes-right-spec = tie.close (tie.spec mul-match add-match returns returns-2 returns-3 returns-4)
