@@ -1,16 +1,20 @@
 -- `idle` meets its contract.
 -- Assumes nothing.
-use Prim.Native.Nat.{ℕ}
+use Prim.Native.Nat.{ℕ, _-_}
 use mathlib.Core.Path.{_≡_, sym, ap, _∙_}
 use mathlib.Core.List.{[]}
 use borrow.Author.Needs.{needs}
 use Rattle.rules.specs.declared.Head.{Head}
-use Rattle.rules.specs.declared.Head.the-variants.{At}
+use Rattle.rules.specs.declared.Head.the-variants.{None, At}
 use Rattle.rules.specs.RoundRobin.{after}
 use Rattle.rules.specs.RoundRobin.Laws.{after-stays, after-none}
 use Rattle.arbiter.specs.Answers.{moved, served}
 use Rattle.arbiter.proofs.State.idle.Statement.{statement}
 use Rattle.arbiter.proofs.State.idle.Tie as tie
+
+-- no head becomes the last station
+becomes : {h : Head} (n k : ℕ) → k ≡ n - 1 → h ≡ None → At k ≡ after n h []
+becomes n k e f = rw (e, f) (sym (after-none n))
 
 -- a head stays
 stays : (n : ℕ) (h : Head) (k : ℕ) → h ≡ At k → h ≡ after n h []
@@ -39,7 +43,8 @@ returns c =
     let m = c .before in
     let none = m .before .enum-told .given .1 in
     let to = m .before .before .before .last-station .ensures in
-    c .served .ensures ∙ ap (served 0) (m .moved .ensures) ∙ rw (to, none, after-none _)
+    let self = m .before .before .before .before .args .self in
+    c .served .ensures ∙ ap (served 0) (m .moved .ensures) ∙ ap (λ (h : Head). served 0 (moved self h)) (becomes (self .width) _ to none)
 
 returns-2 : tie.Need-returns-2
 returns-2 c =
