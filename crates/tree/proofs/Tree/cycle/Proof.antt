@@ -9,12 +9,6 @@ use Rattle.rules.specs.Tree as Rule
 use Rattle.tree.proofs.Tree.cycle.Statement.{statement}
 use Rattle.tree.proofs.Tree.cycle.Tie as tie
 
--- what is known once the questions have passed
-asked : (c : tie.Else1)
-    → let a = c .before .before .before .before .before .before .before .args in
-    Ready (a .self .0) (a .requests .now) (length (a .grants .now)) (length (a .nodes .now))
-asked c = ready _ _ _ _ (c .before .before .cycle .ensures) (c .if1 .left)
-
 cycle-requires : tie.Need-cycle-requires
 cycle-requires c κs = search needs
 
@@ -24,6 +18,12 @@ refused-requires c κs = search needs
 returns : tie.Need-returns
 returns c =
     let v = c .before .before .before .cycle .ensures in unwritten _ _ _ _ v (c .before .if1 .taken) (c .refused .ensures)
+
+-- what is known once the questions have passed
+asked : (c : tie.Else1)
+    → let a = c .before .before .before .before .before .before .before .args in
+    Ready (a .self .0) (a .requests .now) (length (a .grants .now)) (length (a .nodes .now))
+asked c = ready _ _ _ _ (c .before .before .cycle .ensures) (c .if1 .left)
 
 clear-requires : tie.Need-clear-requires
 clear-requires c κs = search needs
