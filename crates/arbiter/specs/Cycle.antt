@@ -3,7 +3,7 @@
 -- Assumes nothing.
 use Prim.Native.Nat.{ℕ}
 use mathlib.Core.Bool.{Bool}
-use mathlib.Core.List.{List, []}
+use mathlib.Core.List.{List}
 use lib.Dec.{eqb}
 use lib.ListN.{length, getD}
 use Rattle.rules.specs.declared.Head.{Head}
@@ -30,9 +30,9 @@ answer s requests =
     let asks = asking s requests in
     served (length (granted (s .width) (s .picks) (s .head) asks)) (moved s (next (s .width) (s .picks) (s .head) asks))
 
--- the answer of one that grants no one: "a head stays", and none becomes N - 1
-abbrev pub idle : State → Answer
-idle s = served 0 (moved s (after (s .width) (s .head) []))
+-- the same told by whom it grants
+abbrev pub answering : State → List ℕ → Answer
+answering s gs = served (length gs) (moved s (after (s .width) (s .head) gs))
 
 -- the grant buffer of a served cycle
 abbrev pub granting : State → List ℕ → List ℕ

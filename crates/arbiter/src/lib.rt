@@ -6,6 +6,7 @@ mod snapshot;
 
 use question::Verdict;
 use rules::Head;
+ghost use mathlib.Core.List.{[]};
 ghost use mathlib.Core.Path.{_≡_};
 ghost use Prim.Native.Nat.{_-_};
 ghost use lib.ListN.{length, replicate};
@@ -94,7 +95,7 @@ impl State {
 
     // The answer of a served cycle that grants no one: a head stays, and no head becomes the last station.
     pub fn idle(self) -> Answer
-        ensures { λ r. ⌜ r ≡ Cycle.idle self ⌝ }
+        ensures { λ r. ⌜ r ≡ Cycle.answering self [] ⌝ }
     {
         let last = self.last_station();
         let head = self.head;

@@ -11,11 +11,7 @@ use lib.Pow.{pow-pos, pow-mono}
 use borrow.Author.Tests.{eqb-true, eqb-false, eq-eqb, leb-true, le-leb}
 use Rattle.rules.specs.Lists.{range, member}
 use Rattle.rules.specs.Lists.Laws as Lists
-
--- a number is below its power of two
-below-power : (k : ℕ) → k < 2 ^ k
-below-power zero = omega arith
-below-power (suc k) = omega (arith, below-power k)
+use Rattle.tree.specs.Subtrees.Laws.{below-power}
 
 -- a number without ones is 0
 no-ones : (k n : ℕ) → n < 2 ^ k → ones n ≡ 0 → n ≡ 0

@@ -3,21 +3,16 @@
 use Prim.Native.Nat.{ℕ, _*_, _<_}
 use mathlib.Core.Bool.{Bool, cond}
 use mathlib.Core.List.{List, [], _∷_}
-use lib.ListN.{length, getD}
-use Rattle.rules.specs.RoundRobin.{after}
+use lib.ListN.{getD}
 use Rattle.rules.specs.Tree as Rule
 use Rattle.arbiter.specs.declared.Answer.{Answer}
 use Rattle.arbiter.specs.declared.State.{State}
-use Rattle.arbiter.specs.Answers.{moved, served}
+use Rattle.arbiter.specs.Cycle.{answering}
 pub mod Laws
 
 -- every byte of a node buffer for n stations is a node's value
 abbrev pub Values : ℕ → List ℕ → Type 0
 Values n t = (u : ℕ) → u < 2 * n → getD t u 0 < 4
-
--- the answer of a state once these are granted
-abbrev pub answering : State → List ℕ → Answer
-answering s gs = served (length gs) (moved s (after (s .width) (s .head) gs))
 
 -- the answer once the descent has reached a station: it "is granted if it asks"
 abbrev pub settled : State → ℕ → Bool → Answer

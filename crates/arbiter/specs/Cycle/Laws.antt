@@ -16,7 +16,7 @@ use Rattle.arbiter.specs.Questions as Questions
 use Rattle.arbiter.specs.Questions.{_then_}
 use Rattle.arbiter.specs.Questions.Laws.{Allowed, allowed, then-served, length-served, bits-served}
 use Rattle.arbiter.specs.Answers.{moved, served}
-use Rattle.arbiter.specs.Cycle.{asking, answer, idle, questions}
+use Rattle.arbiter.specs.Cycle.{asking, answer, answering, questions}
 
 pub record Ready (s : State) (requests : List ℕ) (size : ℕ) : Type 0 where
   pub allows : Allowed s
@@ -48,11 +48,10 @@ pub answer-some : (s : State) (requests : List ℕ) (c k : ℕ)
     → next (s .width) (s .picks) (s .head) (asking s requests) ≡ At k → served c (moved s (At k)) ≡ answer s requests
 answer-some s requests c k e f = rw (e, f)
 
--- one that grants no one
-pub answer-idle : (s : State) (requests : List ℕ) → granted (s .width) (s .picks) (s .head) (asking s requests) ≡ []
-    → idle s ≡ answer s requests
-answer-idle s requests e =
-    rw (e, RoundRobin.next-after (s .width) (s .picks) (s .head) (asking s requests) [] e)
+-- one told by whom it grants
+pub answer-granted : (s : State) (requests gs : List ℕ) → granted (s .width) (s .picks) (s .head) (asking s requests) ≡ gs
+    → answering s gs ≡ answer s requests
+answer-granted s requests gs e = rw (e, RoundRobin.next-after (s .width) (s .picks) (s .head) (asking s requests) gs e)
 
 -- a walk once round that granted c stations, the last of them z
 module _ (s : State) (requests : List ℕ) {c z : ℕ} {new : List ℕ} (w : Walked (s .width) (s .picks) (s .head) (asking s requests) c z new) where
@@ -60,5 +59,5 @@ module _ (s : State) (requests : List ℕ) {c z : ℕ} {new : List ℕ} (w : Wal
   pub walked-some : {k : ℕ} → k ≡ c → 0 < c → served k (moved s (At ((z + 1) % s .width))) ≡ answer s requests
   walked-some {k = k} e some = answer-some s requests k _ (e ∙ w .counted) (w .last some)
 
-  pub walked-none : c ≡ 0 → idle s ≡ answer s requests
-  walked-none e = answer-idle s requests (Lists.empty _ (sym (w .counted) ∙ e))
+  pub walked-none : c ≡ 0 → answering s [] ≡ answer s requests
+  walked-none e = answer-granted s requests [] (Lists.empty _ (sym (w .counted) ∙ e))

@@ -2,10 +2,10 @@
 -- gives the answer and the grants of the round-robin rule.
 -- Assumes nothing.
 use Prim.Native.Nat.{ℕ, _*_, _^_, _≤_, _<_}
-use mathlib.Core.Path.{_≡_, refl, sym, ap, _∙_}
+use mathlib.Core.Path.{_≡_, sym, ap, _∙_}
 use mathlib.Core.List.{List}
 use lib.ListN.{length}
-use Rattle.rules.specs.RoundRobin.{start, granted}
+use Rattle.rules.specs.RoundRobin.{start}
 use Rattle.rules.specs.RoundRobin.Laws as RoundRobin
 use Rattle.rules.specs.Tree as Rule
 use Rattle.rules.specs.Tree.Laws as Tree
@@ -18,6 +18,7 @@ use Rattle.arbiter.specs.Questions.Laws.{then-served, width-served, tree-width-
 use Rattle.arbiter.specs.Answers.{refused}
 use Rattle.arbiter.specs.Answers.Laws.{if-passed, if-refused}
 use Rattle.arbiter.specs.Cycle.{asking, answer, granting}
+use Rattle.arbiter.specs.Cycle.Laws.{answer-granted}
 use Rattle.tree.specs.Subtrees.Laws.{chosen-granted}
 use Rattle.tree.specs.Calls.{Outcome, state, questions, cycle}
 use Rattle.tree.specs.Steps.{Values, descended}
@@ -101,10 +102,8 @@ module _ (s : State) (requests : List ℕ) (a : Allowed s) where
   -- the tree of a cycle's requests and head grants whom the round-robin rule grants
   pub tree-answer : descended s tree ≡ answer s requests
   tree-answer =
-      let h = s .head in
-      let asks = asking s requests in
-      let same = chosen-granted (s .width) (a .levels) h asks (a .power) (a .station) in
-      rw (a .one, same, RoundRobin.next-after (s .width) 1 h asks (granted (s .width) 1 h asks) refl)
+      let same = chosen-granted (s .width) (a .levels) (s .head) (asking s requests) (a .power) (a .station) in
+      answer-granted s requests (Rule.chosen (s .width) tree) (rw (a .one) (sym same))
 
   pub tree-grants : Rule.grants (s .width) tree ≡ granting s requests
   unfolding Rule.grants

@@ -19,6 +19,7 @@ use Rattle.rules.specs.RoundRobin.{start, order, granted}
 use Rattle.rules.specs.RoundRobin.Laws as RoundRobin
 use Rattle.rules.specs.Tree.{value, s1, s0, headAt, leaf, join, nodes, goesRight, child, descend, reached, chosen}
 use Rattle.rules.specs.Tree.Laws as Tree
+use Rattle.arbiter.specs.Places.{first}
 use Rattle.tree.specs.Subtrees.{inside, from, some, subtree}
 
 -- those that ask of the stations from one up to another
@@ -40,11 +41,6 @@ high h asks a c = span asks (from h a c) (a + c)
 
 abbrev low : Head → (ℕ → Bool) → ℕ → ℕ → List ℕ
 low h asks a c = span asks a (from h a c)
-
--- the first of a list, or none
-abbrev first : List ℕ → Head
-first [] = None
-first (x ∷ xs) = At x
 
 -- two halves and the whole: the head is in the left half, in the right half, or in neither
 data Halves (h : Head) (asks : ℕ → Bool) (a c : ℕ) : Type 0 where
@@ -301,9 +297,9 @@ module _ (n : ℕ) (h : Head) (asks : ℕ → Bool) (stations : 1 ≤ n) where
       rw there (reaches d k (suc j) (p + p) a w (deeper d j e) (omega arith) base (omega arith) (rw q at to))))
 
 -- a number is below its power of two
-below-power : (k : ℕ) → k ≤ 2 ^ k
+pub below-power : (k : ℕ) → k < 2 ^ k
 below-power zero = omega arith
-below-power (suc k) = omega (arith, below-power k, pow-pos k)
+below-power (suc k) = omega (arith, below-power k)
 
 -- the whole tree's stations that ask, in its order, are those in the rule's order
 from-start : (n : ℕ) (h : Head) → start h < n → from h 0 n ≡ start h
@@ -355,7 +351,7 @@ module _ (n k : ℕ) (h : Head) (asks : ℕ → Bool) (power : n ≡ 2 ^ k) (sta
       let at : r < n = Tree.reached-station n (nodes n h asks) (omega arith) in
       ap s0 (Tree.node-leaf n h asks (omega arith) r at) ∙ Tree.s0-value (headAt h r) (asks r)
 
-  -- nobody who does not stand in the order asks
+  -- where nobody asks in the order, no station does
   silent : (w : ℕ) → w < n → count asks (order n h) ≡ 0 → asks w ≡ false
   silent w l none =
       Lists.split (asks w)
