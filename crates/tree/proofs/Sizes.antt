@@ -2,7 +2,7 @@
 -- Assumes nothing.
 use Prim.Native.Nat.{ℕ, zero, suc, _+_, _*_, _/_, _%_, _^_, _≤_, _<_}
 use mathlib.Core.Path.{_≡_, sym, ap, _∙_}
-use mathlib.Core.Bool.{true, false, _&&_, true≢false}
+use mathlib.Core.Bool.{true, _&&_}
 use mathlib.Core.List.{map}
 use native.Mathlib.Omega.{arith}
 use lib.Count.{ones, ones-step, ones-cat}
@@ -44,21 +44,7 @@ power-ones j =
 
 -- 2: a power of two, at least 2, is told by counting ones
 pub power-test : (n : ℕ) → (leb 2 n && eqb (ones n) 1) ≡ member n (map (λ k. 2 ^ k) (range 1 n))
-power-test n =
-    Lists.split (member n (map (λ k. 2 ^ k) (range 1 n)))
-    (λ t.
-    let r = Lists.table-entry (λ k. 2 ^ k) n 1 n t in
-    let large : 2 ≤ n = omega (arith, r .3, pow-mono (r .1)) in
-    rw (t, le-leb 2 n large, eq-eqb (ones n) 1 (ap ones (r .3) ∙ power-ones (r .0))))
-    (λ f.
-    rw f
-    (Lists.split (leb 2 n && eqb (ones n) 1)
-    (λ t.
-    let b = Lists.both (leb 2 n) (eqb (ones n) 1) t in
-    let large : 2 ≤ n = leb-true 2 n (b .0) in
-    let p = one-one n n (below-power n) (eqb-true (ones n) 1 (b .1)) in
-    absurd (true≢false (sym (entry (p .0) (p .1) large) ∙ f)))
-    (λ u. u)))
+power-test n = Lists.both-ways (leb 2 n && eqb (ones n) 1) (member n (map (λ k. 2 ^ k) (range 1 n))) told so
   where
     entry : (j : ℕ) → n ≡ 2 ^ j → 2 ≤ n → member n (map (λ k. 2 ^ k) (range 1 n)) ≡ true
     entry zero e large = absurd (omega arith)
@@ -66,17 +52,25 @@ power-test n =
         let below : suc j < 1 + n = omega (arith, below-power (suc j)) in
         ap (λ (x : ℕ). member x (map (λ k. 2 ^ k) (range 1 n))) e ∙ Lists.entry-table (λ k. 2 ^ k) (suc j) 1 n (omega arith) below
 
+    told : (leb 2 n && eqb (ones n) 1) ≡ true → member n (map (λ k. 2 ^ k) (range 1 n)) ≡ true
+    told t =
+        let b = Lists.both (leb 2 n) (eqb (ones n) 1) t in
+        let p = one-one n n (below-power n) (eqb-true (ones n) 1 (b .1)) in
+        entry (p .0) (p .1) (leb-true 2 n (b .0))
+
+    so : member n (map (λ k. 2 ^ k) (range 1 n)) ≡ true → (leb 2 n && eqb (ones n) 1) ≡ true
+    so t =
+        let r = Lists.table-entry (λ k. 2 ^ k) n 1 n t in
+        let large : 2 ≤ n = omega (arith, r .3, pow-mono (r .1)) in
+        rw (le-leb 2 n large, eq-eqb (ones n) 1 (ap ones (r .3) ∙ power-ones (r .0)))
+
 -- 7: twice the stations
 pub double-test : (n size : ℕ) → (eqb (size / 2) n && eqb (size % 2) 0) ≡ eqb size (2 * n)
 double-test n size =
-    Lists.split (eqb size (2 * n))
-    (λ t.
-    let e : size ≡ 2 * n = eqb-true size (2 * n) t in
-    rw (t, eq-eqb (size / 2) n (omega arith), eq-eqb (size % 2) 0 (omega arith)))
-    (λ f.
-    rw f
-    (Lists.split (eqb (size / 2) n && eqb (size % 2) 0)
+    Lists.both-ways (eqb (size / 2) n && eqb (size % 2) 0) (eqb size (2 * n))
     (λ t.
     let b = Lists.both (eqb (size / 2) n) (eqb (size % 2) 0) t in
-    absurd (eqb-false size (2 * n) f (omega (arith, eqb-true (size / 2) n (b .0), eqb-true (size % 2) 0 (b .1)))))
-    (λ u. u)))
+    eq-eqb size (2 * n) (omega (arith, eqb-true (size / 2) n (b .0), eqb-true (size % 2) 0 (b .1))))
+    (λ t.
+    let e : size ≡ 2 * n = eqb-true size (2 * n) t in
+    rw (eq-eqb (size / 2) n (omega arith), eq-eqb (size % 2) 0 (omega arith)))

@@ -1,6 +1,6 @@
 -- Laws of the words of Lists.
 -- Assumes nothing.
-use Prim.Native.Nat.{ℕ, zero, suc, _+_, _-_, _≤_, _<_}
+use Prim.Native.Nat.{ℕ, zero, suc, _+_, _-_, _≤_, _<_, min}
 use mathlib.Core.Path.{_≡_, refl, sym, ap, _∙_}
 use mathlib.Core.Bool.{Bool, true, false, _&&_, _||_, true≢false, and-true, and-false}
 use native.Mathlib.Nat.{zero-add, add-zero, suc-add, add-suc}
@@ -10,7 +10,7 @@ use native.Mathlib.Omega.{arith}
 use lib.Dec.{ltb, eqb, leb·suc-suc}
 use lib.ListN.{length, take, getD, set, replicate, length-map, length-set, length-replicate, getD-replicate}
 use lib.Seq.{take-append-add, getD-set-same, getD-set-other, ext-getD}
-use borrow.Author.Tests.{eqb-true, eqb-false, eq-eqb, ne-eqb, lt-ltb, le-ltb}
+use borrow.Author.Tests.{eqb-true, eqb-false, eq-eqb, ne-eqb, ltb-true, ltb-false, lt-ltb, le-ltb}
 use Rattle.rules.specs.Lists.{bit, range, filter, count, member, marks, before, last}
 
 -- by cases on a test, with its outcome in hand
@@ -22,6 +22,19 @@ split false f g = g refl
 pub both : (a b : Bool) → (a && b) ≡ true → (a ≡ true) × (b ≡ true)
 both true b e = (refl, e)
 both false b e = absurd (true≢false (sym e))
+
+-- two tests that follow from each other are the same
+pub both-ways : (a b : Bool) → (a ≡ true → b ≡ true) → (b ≡ true → a ≡ true) → a ≡ b
+both-ways true b f g = sym (f refl)
+both-ways false true f g = g refl
+both-ways false false f g = refl
+
+-- cut off at m, a count says the same of what lies below m
+pub cut-below : (m c x : ℕ) → ltb (min m c + x) m ≡ ltb (c + x) m
+cut-below m c x =
+    split (ltb (c + x) m)
+    (λ t. rw t (lt-ltb (min m c + x) m (omega (arith, ltb-true (c + x) m t))))
+    (λ f. rw f (le-ltb (min m c + x) m (omega (arith, ltb-false (c + x) m f))))
 
 -- a bit is 0 or 1
 pub bit-le : (b : Bool) → bit b ≤ 1
@@ -387,18 +400,16 @@ count-more p from i to l u =
       count-append p (range from (i - from)) (range (from + (i - from)) (to - i)),
     )
 
--- the first that a filter leaves is of the list and passes, and nobody before it does
+-- the first that a filter leaves passes, and nobody before it does
 pub first-left : (p : ℕ → Bool) (xs : List ℕ) (w : ℕ) (ws : List ℕ) → filter p xs ≡ w ∷ ws
-    → (member w xs ≡ true) × (p w ≡ true) × (count p (before w xs) ≡ 0)
+    → (p w ≡ true) × (count p (before w xs) ≡ 0)
 first-left p [] w ws e = let z : _≡_ {A = ℕ} 0 1 = cc in absurd (omega arith)
 first-left p (x ∷ xs) w ws e =
     split (p x)
     (λ t.
     let here : x ∷ filter p xs ≡ w ∷ ws = rw t at e in
     let same : x ≡ w = cc in
-    (rw (eq-eqb w x (sym same)), rw same at t, rw (eq-eqb w x (sym same))))
+    (rw same at t, rw (eq-eqb w x (sym same))))
     (λ f.
     let r = first-left p xs w ws (rw f at e) in
-    split (eqb w x)
-    (λ q. (rw q, r .1, rw q))
-    (λ q. (rw q (r .0), r .1, rw (q, f) (omega (arith, r .2)))))
+    (r .0, split (eqb w x) (λ q. rw q) (λ q. rw (q, f) (omega (arith, r .1)))))

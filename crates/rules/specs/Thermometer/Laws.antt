@@ -4,12 +4,12 @@ use Prim.Native.Nat.{ℕ, _+_, _≤_, _<_, min}
 use mathlib.Core.Path.{_≡_, refl, sym, ap, _∙_}
 use mathlib.Core.Bool.{Bool, true, _&&_}
 use native.Mathlib.Omega.{arith}
-use native.Mathlib.Nat.{zero-add}
+use native.Mathlib.Nat.{zero-add, add-zero}
 use lib.Count.{ones, ones-ones}
 use lib.Dec.{ltb, leb, eqb}
 use lib.ListN.{length, getD}
 use lib.Seq.{ext-getD}
-use borrow.Author.Tests.{ltb-true, ltb-false, lt-ltb, le-ltb, leb-true, le-leb, eqb-true, eq-eqb}
+use borrow.Author.Tests.{leb-true, le-leb, eqb-true, eq-eqb}
 use Rattle.rules.specs.declared.Head.{Head}
 use Rattle.rules.specs.Lists.{bit, count, before}
 use Rattle.rules.specs.Lists.Laws as Lists
@@ -52,12 +52,9 @@ pub is-code : (m c : ℕ) → c ≤ m → isCode m (code c) ≡ true
 unfolding isCode
 is-code m c l = rw (ones-code c, eq-eqb (code c) (code c) refl) (le-leb c m l)
 
--- cut off at m, a count is below m exactly if it is so uncut
+-- a saturated count is below m exactly if the count is
 below : (m c : ℕ) → ltb (min m c) m ≡ ltb c m
-below m c =
-    Lists.split (ltb c m)
-    (λ t. rw t (lt-ltb (min m c) m (omega (arith, ltb-true c m t))))
-    (λ t. rw t (le-ltb (min m c) m (omega (arith, ltb-false c m t))))
+below m c = rw (add-zero (min m c), add-zero c) at (Lists.cut-below m c 0)
 
 -- the saturated counts grant those whom the round-robin rule grants
 pub grants-round-robin : (n m : ℕ) (h : Head) (asks : ℕ → Bool) → start h ≤ n → grants n m h asks ≡ RoundRobin.grants n m h asks

@@ -95,13 +95,6 @@ module _ (m : ℕ) (asks : ℕ → Bool) (from c₀ z₀ : ℕ) (old : List ℕ)
           some = λ a. let l = r .some a in (l .0, omega (arith, l .1), l .2, l .3);
         }
 
--- a count that was cut off at m says the same of what lies below m
-cut-below : (k c m x : ℕ) → k ≡ min m c → ltb (k + x) m ≡ ltb (c + x) m
-cut-below k c m x e =
-    Lists.split (ltb (c + x) m)
-    (λ t. let l : c + x < m = ltb-true (c + x) m t in lt-ltb (k + x) m (omega arith) ∙ sym t)
-    (λ f. let l : m ≤ c + x = ltb-false (c + x) m f in le-ltb (k + x) m (omega arith) ∙ sym f)
-
 -- a byte that was 0
 cond-bit : (b : Bool) (x : ℕ) → x ≡ 0 → cond b 1 x ≡ bit b
 cond-bit true x e = refl
@@ -164,7 +157,7 @@ module _ (n m : ℕ) (h : Head) (asks : ℕ → Bool) (station : start h < n) (c
       let sum : many + count asks (range 0 w) ≡ count asks (before w (order n h)) =
       sym (ap (count asks) (RoundRobin.before-low n h w l) ∙ Lists.count-append asks (range s (n - s)) (range 0 w)) in
       let so : ltb (reached asks 0 w c₁) m ≡ ltb (count asks (before w (order n h))) m =
-      cut-below c₁ many m (count asks (range 0 (w - 0))) half-count ∙ rw (all, sum) in
+      rw (half-count, all, ← sum) (Lists.cut-below m many (count asks (range 0 w))) in
       two .here w (omega arith) l ∙ cond-bit (asks w && ltb (reached asks 0 w c₁) m) _ was ∙ rw so
 
   bytes : new ≡ grants n m h asks

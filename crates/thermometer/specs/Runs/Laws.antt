@@ -36,10 +36,10 @@ module _ (s : State) (requests old mid new : List ℕ) (half now : Walk) (w : �
       code-own (s .picks) (now .code) (r .coded) ∙ ap code all
 
   -- and before a station below it
-  pub serial-low : w < f → f < s .width → Ran s requests f (s .width) begun old half mid → Ran s requests 0 w half mid now new
+  pub serial-low : w < f → Ran s requests f (s .width) begun old half mid → Ran s requests 0 w half mid now new
       → now .code ≡ serial
   unfolding saturated
-  serial-low l u one two =
+  serial-low l one two =
       let n = s .width in
       let asks = asking s requests in
       let rest : w - 0 ≡ w = omega arith in

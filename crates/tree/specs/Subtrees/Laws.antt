@@ -342,7 +342,7 @@ module _ (n k : ℕ) (h : Head) (asks : ℕ → Bool) (power : n ≡ 2 ^ k) (sta
       by [] e = absurd (omega (arith, sym (Lists.length-filter asks (order n h)), ap length e))
       by (w ∷ ws) e =
           let f = Lists.first-left asks (order n h) w ws e in
-          (Tree.reached-station n (nodes n h asks) (omega arith), rw (reached-is w ws e) (f .1), rw (reached-is w ws e) (f .2))
+          (Tree.reached-station n (nodes n h asks) (omega arith), rw (reached-is w ws e) (f .0), rw (reached-is w ws e) (f .1))
 
   -- a station reached asks if its node says so
   asks-there : s0 (getD (nodes n h asks) (n + r) 0) ≡ asks r
