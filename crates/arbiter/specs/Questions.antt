@@ -63,6 +63,11 @@ abbrev pub head : ℕ → Head → Verdict
 head n None = passed
 head n (At h) = refuseUnless (ltb h n) 4 0
 
+-- 4 for the bus: "below N", so none is refused
+abbrev pub token : ℕ → Head → Verdict
+token n None = refuseUnless false 4 0
+token n (At t) = refuseUnless (ltb t n) 4 0
+
 -- 5: is the buffer to be read "exactly as long as stated"
 abbrev pub readLength : ℕ → ℕ → Verdict
 readLength stated length = refuseUnless (eqb length stated) 5 0
@@ -78,6 +83,10 @@ nodesLength n length = refuseUnless (eqb length (2 * n)) 7 0
 -- 8: "Is every byte read 0 or 1", from a place on; "the place of the first that is not"
 abbrev pub bits : ℕ → List ℕ → Verdict
 bits from bytes = refuseAtFirst 8 (places (ltb 1) from bytes)
+
+-- 9: "Is acknowledge 0 or 1?"
+abbrev pub acknowledge : ℕ → Verdict
+acknowledge a = refuseUnless (leb a 1) 9 0
 
 -- 10: "Has a wire image at most one 1"; "the place of the second"
 abbrev pub oneHot : List ℕ → Verdict

@@ -13,6 +13,7 @@ ghost use lib.ListN.{length, replicate};
 ghost use Rattle.rules.specs.RoundRobin.{start};
 ghost use Rattle.arbiter.specs.Answers as Answers;
 ghost use Rattle.arbiter.specs.Cycle as Cycle;
+ghost use Rattle.arbiter.specs.Places as Places;
 
 // The most stations.
 pub const MAX_WIDTH: usize = 256;
@@ -147,4 +148,18 @@ pub fn clear(bytes: &mut [u8])
         bytes[i] = 0;
         i += 1;
     }
+}
+
+// The place of the first 1 from `from` on, or none.
+pub fn first_one(from: usize, bytes: &[u8]) -> Head
+    ensures { λ r. ⌜ r ≡ Places.first (Places.ones from (now (bytes .entry))) ⌝ }
+{
+    let mut i = from;
+    while i < bytes.len() {
+        if bytes[i] == 1 {
+            return Head::At(i);
+        }
+        i += 1;
+    }
+    Head::None
 }

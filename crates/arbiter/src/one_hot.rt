@@ -2,13 +2,13 @@
 use crate::Answer;
 use crate::State;
 use crate::clear;
+use crate::first_one;
 use crate::question;
 use crate::question::Verdict;
 use crate::refusal;
 use rules::Head;
 ghost use mathlib.Core.Path.{_≡_};
 ghost use Rattle.arbiter.specs.OneHot as OneHot;
-ghost use Rattle.arbiter.specs.Places as Places;
 
 impl State {
     // Replaces the head by the one that an image shows. Asks 1, 3, 4, 5, 8 and 10. With 4 stations 0 0 1 0 gives head 2,
@@ -56,18 +56,4 @@ fn readable(s: State, image: &[u8]) -> Verdict
     let by_bits = question::bits(0, image);
     let by_ones = question::one_hot(image);
     by_bits.then(by_ones)
-}
-
-// The place of the first 1 from `from` on, or none.
-pub(crate) fn first_one(from: usize, bytes: &[u8]) -> Head
-    ensures { λ r. ⌜ r ≡ Places.first (Places.ones from (now (bytes .entry))) ⌝ }
-{
-    let mut i = from;
-    while i < bytes.len() {
-        if bytes[i] == 1 {
-            return Head::At(i);
-        }
-        i += 1;
-    }
-    Head::None
 }

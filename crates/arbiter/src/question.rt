@@ -3,7 +3,7 @@
 use crate::MAX_PICKS;
 use crate::MAX_WIDTH;
 use crate::State;
-use crate::one_hot::first_one;
+use crate::first_one;
 use crate::refusal;
 use rules::Head;
 ghost use mathlib.Core.Path.{_≡_};

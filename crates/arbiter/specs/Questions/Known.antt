@@ -4,9 +4,10 @@ use Prim.Native.Nat.{ℕ}
 use mathlib.Core.Path.{_≡_, refl}
 use mathlib.Core.List.{List, [], _∷_, map}
 use lib.Count.{ones}
+use Rattle.rules.specs.declared.Head.the-variants.{None, At}
 use Rattle.rules.specs.Thermometer.{code, isCode}
 use Rattle.arbiter.specs.declared.question.Verdict.{Verdict}
-use Rattle.arbiter.specs.Questions.{width, treeWidth, picks, pickCount, onePick, nodesLength, codes}
+use Rattle.arbiter.specs.Questions.{width, treeWidth, picks, pickCount, onePick, head, token, nodesLength, acknowledge, codes}
 
 -- the numbers of verdicts, 0 where nothing is refused
 abbrev numbers : List Verdict → List ℕ
@@ -30,9 +31,16 @@ known-pick-counts = refl
 pub known-one-pick : numbers (onePick 0 ∷ onePick 2 ∷ onePick 1 ∷ []) ≡ 3 ∷ 3 ∷ 0 ∷ []
 known-one-pick = refl
 
+-- without a head the bus is refused, and the other engines are not
+pub known-heads : numbers (head 4 None ∷ head 4 (At 4) ∷ head 4 (At 3) ∷ token 4 None ∷ token 4 (At 4) ∷ token 4 (At 3) ∷ []) ≡ 0 ∷ 4 ∷ 0 ∷ 4 ∷ 4 ∷ 0 ∷ []
+known-heads = refl
+
 -- a node buffer of 2N
 pub known-nodes : numbers (nodesLength 4 4 ∷ nodesLength 4 7 ∷ nodesLength 4 9 ∷ nodesLength 4 8 ∷ []) ≡ 7 ∷ 7 ∷ 7 ∷ 0 ∷ []
 known-nodes = refl
+
+pub known-acknowledges : numbers (acknowledge 0 ∷ acknowledge 1 ∷ acknowledge 2 ∷ acknowledge 255 ∷ []) ≡ 0 ∷ 0 ∷ 9 ∷ 9 ∷ []
+known-acknowledges = refl
 
 -- "Adder, m 2: .. 10 is refused by 13"; so is 111, which has too many ones
 pub known-codes : numbers (codes 2 2 1 ∷ codes 2 1 2 ∷ codes 2 7 1 ∷ codes 2 1 1 ∷ codes 2 3 0 ∷ []) ≡ 13 ∷ 13 ∷ 13 ∷ 0 ∷ 0 ∷ []

@@ -18,7 +18,7 @@ use Rattle.arbiter.specs.declared.State.{State}
 use Rattle.arbiter.specs.declared.question.Verdict.{Verdict}
 use Rattle.arbiter.specs.Places.{ones, first}
 use Rattle.arbiter.specs.Places.Laws.{found, free-of}
-use Rattle.arbiter.specs.Questions.{refuseUnless, refuseAtFirst, _then_, maxWidth, width, treeWidth, picks, onePick, head, writeLength, bits, oneHot, state, write}
+use Rattle.arbiter.specs.Questions.{refuseUnless, refuseAtFirst, _then_, maxWidth, width, treeWidth, picks, onePick, head, token, writeLength, bits, oneHot, state, write}
 
 -- r is the verdict on a, the first question. If it refuses, it decides
 pub refused : {a r : Verdict} (b : Verdict) → r ≡ a → (r .number ≡ 0 → ⊥) → r ≡ (a then b)
@@ -113,6 +113,10 @@ tree-width-served n z =
 pub head-served : (n : ℕ) (h : Head) → 1 ≤ n → (head n h) .number ≡ 0 → start h < n
 head-served n None l z = omega (arith, RoundRobin.start-none)
 head-served n (At h) l z = omega (arith, RoundRobin.start-at h, ltb-true h n (unless-served _ 3 0 z))
+
+pub token-served : (n : ℕ) (h : Head) → (token n h) .number ≡ 0 → (t : ℕ) × (t < n) × (h ≡ At t)
+token-served n None z = absurd (omega arith)
+token-served n (At t) z = (t, ltb-true t n (unless-served _ 3 0 z), refl)
 
 pub length-served : (k stated length : ℕ) → (refuseUnless (eqb length stated) (suc k) 0) .number ≡ 0 → length ≡ stated
 length-served k stated length z = eqb-true length stated (unless-served _ k 0 z)

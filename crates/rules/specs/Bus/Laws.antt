@@ -1,6 +1,6 @@
 -- Laws of the token bus's rule.
 -- Assumes nothing.
-use Prim.Native.Nat.{ℕ, _+_, _%_, _<_}
+use Prim.Native.Nat.{ℕ, _+_, _%_, _≤_, _<_}
 use mathlib.Core.Path.{_≡_, refl}
 use mathlib.Core.Bool.{Bool, true, false}
 use mathlib.Core.List.{List, [], _∷_}
@@ -8,7 +8,7 @@ use native.Mathlib.Omega.{arith}
 use native.Mathlib.Nat.{mod-lt}
 use lib.ListN.{length, getD}
 use Rattle.rules.specs.declared.Head.the-variants.{At}
-use Rattle.rules.specs.Lists.{bit, member, before}
+use Rattle.rules.specs.Lists.{bit, member, marks, before}
 use Rattle.rules.specs.RoundRobin.{start, order}
 use Rattle.rules.specs.RoundRobin.Laws as RoundRobin
 use Rattle.rules.specs.Bus.{granted, grants, after, next}
@@ -23,6 +23,16 @@ unfolding granted
 granted-some n t w asks token station asking =
     let head = token-head n t token in
     omega (arith, RoundRobin.granted-length n 1 (At t) asks, RoundRobin.before-count n (At t) asks w (omega arith) station asking)
+
+-- with one pick nobody else is
+pub granted-few : (n t : ℕ) (asks : ℕ → Bool) → length (granted n t asks) ≤ 1
+unfolding granted
+granted-few n t asks = omega (arith, RoundRobin.granted-length n 1 (At t) asks)
+
+-- the grant buffer marks the granted
+pub grants-marks : (n t : ℕ) (asks : ℕ → Bool) → grants n t asks ≡ marks n (granted n t asks)
+unfolding granted grants
+grants-marks n t asks = RoundRobin.grants-marks n 1 (At t) asks
 
 -- the grant buffer is 1 for the granted, and 0 for the others
 pub grants-member : (n t : ℕ) (asks : ℕ → Bool) (w : ℕ) → w < n → getD (grants n t asks) w 0 ≡ bit (member w (granted n t asks))

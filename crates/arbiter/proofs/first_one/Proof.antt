@@ -8,8 +8,8 @@ use lib.ListN.{length}
 use borrow.Author.Tests.{eq-eqb, ne-eqb}
 use Rattle.arbiter.specs.Places.{first}
 use Rattle.arbiter.specs.Places.Laws.{Free, free-none, free-more, places-none, places-first}
-use Rattle.arbiter.proofs.one_hot.first_one.Statement.{statement}
-use Rattle.arbiter.proofs.one_hot.first_one.Tie as tie
+use Rattle.arbiter.proofs.first_one.Statement.{statement}
+use Rattle.arbiter.proofs.first_one.Tie as tie
 
 abbrev Inv-loop : tie.InvT-loop
 Inv-loop from bytes i₀ i = (from ≤ i) × Free (λ b. eqb b 1) from i bytes

@@ -1,0 +1,59 @@
+-- The token bus's calls with any input: 01, "The token bus" and "Questions each call asks, in this order".
+-- Assumes nothing.
+use Prim.Native.Nat.{ℕ}
+use mathlib.Core.Bool.{Bool}
+use mathlib.Core.List.{List}
+use lib.Dec.{eqb}
+use lib.ListN.{length}
+use Rattle.rules.specs.declared.Head.{Head}
+use Rattle.rules.specs.declared.Head.the-variants.{At}
+use Rattle.rules.specs.RoundRobin.{start}
+use Rattle.rules.specs.Bus as Bus
+use Rattle.arbiter.specs.declared.Answer.{Answer}
+use Rattle.arbiter.specs.declared.State.{State}
+use Rattle.arbiter.specs.declared.question.Verdict.{Verdict}
+use Rattle.arbiter.specs.Questions as Questions
+use Rattle.arbiter.specs.Questions.{_then_}
+use Rattle.arbiter.specs.Answers.{Outcome, moved, served, opened, writes}
+use Rattle.arbiter.specs.Cycle.{asking}
+pub mod Laws
+
+-- the questions of a state: 1, 3 and 4
+abbrev pub state : State → Verdict
+state s = Questions.width (s .width) then Questions.onePick (s .picks) then Questions.token (s .width) (s .head)
+
+-- "Opening takes N and m (and a head, if one is given); without a head it starts at none, which for the bus is refused by 4"
+abbrev pub opening : ℕ → ℕ → Head → Answer
+opening n m h = let s : State = record { width = n; picks = m; head = h } in opened (state s) s
+
+-- "For the bus the head is the token"
+abbrev pub token : State → ℕ
+token s = start (s .head)
+
+-- an acknowledge byte that is 1
+abbrev pub acknowledged : ℕ → Bool
+acknowledged byte = eqb byte 1
+
+-- the answer of a served cycle: how many are granted, and the state with the next token
+abbrev pub answer : State → List ℕ → ℕ → Answer
+answer s requests byte =
+    let asks = asking s requests in
+    served (length (Bus.granted (s .width) (token s) asks)) (moved s (At (Bus.next (s .width) (token s) (acknowledged byte) asks)))
+
+-- the grant buffer of a served cycle
+abbrev pub granting : State → List ℕ → List ℕ
+granting s requests = Bus.grants (s .width) (token s) (asking s requests)
+
+-- the questions of a cycle with these requests, a grant buffer of this length and this acknowledge byte: 1, 3, 4, 5, 6, 8 and 9
+abbrev pub questions : State → List ℕ → ℕ → ℕ → Verdict
+questions s requests size byte =
+    state s
+    then Questions.readLength (s .width) (length requests)
+    then Questions.writeLength (s .width) size
+    then Questions.bits 0 requests
+    then Questions.acknowledge byte
+
+-- a cycle, with the grant buffer's former bytes
+abbrev pub cycle : State → List ℕ → List ℕ → ℕ → Outcome
+cycle s requests former byte =
+    writes (questions s requests (length former) byte) s (answer s requests byte) (granting s requests) former
