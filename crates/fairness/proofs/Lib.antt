@@ -1,1 +1,2 @@
+mod Calls
 pub mod Waiting

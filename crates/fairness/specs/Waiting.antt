@@ -1,82 +1,118 @@
--- 01, "The wait rule", of the rules themselves: over every list of cycles, from any head or none and any token, whoever asks
--- and whatever is acknowledged. n is the width, 01's N; m is the pick count.
+-- 01, "The wait rule", the user's third demand: over every list of calls, from any state, whoever asks. What a call answers and
+-- writes is what its engine promises.
 -- Assumes nothing.
 use Prim.Native.Nat.{ℕ, _+_, _-_, _/_, _≤_, _<_}
 use mathlib.Core.Path.{_≡_}
-use mathlib.Core.Bool.{Bool, true, _&&_}
+use mathlib.Core.Bool.{Bool, true, false, _&&_}
 use mathlib.Core.List.{List, [], _∷_, _++_}
+use mathlib.Core.Logic.{_⊎_}
 use lib.Dec.{eqb}
-use lib.ListN.{length, getD}
-use Rattle.rules.specs.declared.Head.{Head}
-use Rattle.rules.specs.Lists.{count}
-use Rattle.rules.specs.RoundRobin.{start, grants, next}
-use Rattle.rules.specs.Bus as Bus
+use lib.ListN.{length, getD, take}
+use Rattle.rules.specs.Lists.{filter, count}
+use Rattle.arbiter.specs.declared.State.{State}
+use Rattle.arbiter.specs.Answers.{Outcome}
+use Rattle.arbiter.specs.Cycle as Cycle
+use Rattle.tree.specs.Calls as Tree
+use Rattle.token_bus.specs.Calls as Bus
 
--- a cycle: who asks in it, and the grant buffer afterwards
-pub record Cycle : Type 0 where
-  pub asks : ℕ → Bool
-  pub buffer : List ℕ
+-- "each cycle of the list may be by any of the three"; the tree is lent a node buffer too, which holds any bytes before
+pub data Engine : Type 0 where
+  scan : Engine
+  tree : List ℕ → Engine
+  thermometer : Engine
 
--- the cycle grants station w: the buffer "holds 1 for it"
-abbrev pub grantsTo : ℕ → Cycle → Bool
-grantsTo w c = eqb (getD (c .buffer) w 0) 1
+-- a call, with whatever it is given: how it is made, by its engine or on the bus with an acknowledge byte; the requests; and the
+-- bytes that the grant buffer holds before
+pub record Call (How : Type 0) : Type 0 where
+  pub how : How
+  pub requests : List ℕ
+  pub grants : List ℕ
 
--- all cycles of the list pass the test
+-- a call that was made, with what it left: its answer, and the grant buffer afterwards
+pub record Made (How : Type 0) : Type 0 where
+  pub call : Call How
+  pub left : Outcome
+
+-- what a call leaves: "as that engine's rule above decides", by the definition that the engine's contract cites
+abbrev pub cycle : Engine → State → List ℕ → List ℕ → Outcome
+cycle scan s requests grants = Cycle.cycle s requests grants
+cycle thermometer s requests grants = Cycle.cycle s requests grants
+cycle (tree nodes) s requests grants =
+    let o = Tree.cycle s requests grants nodes in record { answer = o .answer; written = o .grants }
+
+-- the same of the bus, with its acknowledge byte
+abbrev pub busCycle : ℕ → State → List ℕ → List ℕ → Outcome
+busCycle acknowledge s requests grants = Bus.cycle s requests grants acknowledge
+
+-- a list of calls: "Each cycle gets the state the last one returned", a refused one too
+abbrev pub run : {How : Type 0} → (How → State → List ℕ → List ℕ → Outcome) → State → List (Call How) → List (Made How)
+run leaves s [] = []
+run leaves s (c ∷ cs) =
+    let o = leaves (c .how) s (c .requests) (c .grants) in record { call = c; left = o } ∷ run leaves (o .answer .state) cs
+
+-- the served ones of a list; two that stand side by side here "follow one another", since "only refused ones lie between"
+abbrev pub served : {How : Type 0} → List (Made How) → List (Made How)
+served made = filter (λ c. eqb (c .left .answer .number) 0) made
+
+-- station w asks: "the call is given 1 for its wire"
+abbrev pub asks : {How : Type 0} → ℕ → Made How → Bool
+asks w c = eqb (getD (c .call .requests) w 0) 1
+
+-- station w is granted: "the grant buffer afterwards holds 1 for it"
+abbrev pub granted : {How : Type 0} → ℕ → Made How → Bool
+granted w c = eqb (getD (c .left .written) w 0) 1
+
+-- all of the list pass the test
 abbrev pub Each : {A : Type 0} → (A → Bool) → List A → Type 0
 Each p [] = Unit {0}
 Each p (c ∷ cs) = (p c ≡ true) × Each p cs
-
--- cycles that follow one another from a state: each is right for the state it gets, and hands the next state on
-abbrev pub Follows : {S C : Type 0} → (S → C → Type 0) → (S → C → S) → S → List C → Type 0
-Follows right next s [] = Unit {0}
-Follows right next s (c ∷ cs) = right s c × Follows right next (next s c) cs
-
--- by the round-robin rule, with width n and pick count m: what is handed on is the head
-abbrev pub Cycles : ℕ → ℕ → Head → List Cycle → Type 0
-Cycles n m = Follows (λ h c. c .buffer ≡ grants n m h (c .asks)) (λ h c. next n m h (c .asks))
 
 -- 01's "N/m rounded up"
 abbrev pub ceiling : ℕ → ℕ → ℕ
 ceiling n m = (n + (m - 1)) / m
 
--- what is promised of a station's wait: it is shorter than n / m rounded up, and nobody is granted twice in it
-pub record Bounded (n m : ℕ) (waiting : List Cycle) : Type 0 where
+-- what is promised of a wait: "They are fewer than N/m rounded up, and no other station is granted twice in them"
+pub record Bounded (n m : ℕ) (waiting : List (Made Engine)) : Type 0 where
   pub short : length waiting < ceiling n m
-  pub once : (v : ℕ) → count (grantsTo v) waiting ≤ 1
+  pub once : (v : ℕ) → count (granted v) waiting ≤ 1
 
--- The round-robin rule (01: scan, tree and thermometer arbiter). In whatever came before, `past`, and comes after, `rest`: take
--- cycles in all of which station w asks and in none of which it is granted. The head h is none or a station: start h < n.
+-- Scan, tree and thermometer arbiter. "Take any served cycles that follow one another, in all of which a station asks and in none of
+-- which it is granted": some cycles, whatever was served before them and after them
 abbrev pub BoundedWaiting : Type 0
 BoundedWaiting =
-    (n m : ℕ) (h : Head) (w : ℕ) (past waiting rest : List Cycle)
-    → 0 < m
-    → start h < n
-    → w < n
-    → Cycles n m h (past ++ (waiting ++ rest))
-    → Each (λ c. c .asks w) waiting
-    → count (grantsTo w) waiting ≡ 0
-    → Bounded n m waiting
+    (s : State) (calls : List (Call Engine)) (w : ℕ) (past waiting rest : List (Made Engine))
+    → served (run cycle s calls) ≡ past ++ (waiting ++ rest)
+    → 0 < length waiting
+    → Each (asks w) waiting
+    → count (granted w) waiting ≡ 0
+    → Bounded (s .width) (s .picks) waiting
 
--- a cycle of the bus: it is acknowledged or not
-pub record BusCycle : Type 0 where
-  pub cycle : Cycle
-  pub acknowledged : Bool
+-- a station asks in each cycle until one grants it
+abbrev pub AsksUntilGranted : ℕ → List (Made Engine) → Type 0
+AsksUntilGranted w [] = Unit {0}
+AsksUntilGranted w (c ∷ cs) = (asks w c ≡ true) × (granted w c ≡ false → AsksUntilGranted w cs)
 
--- by the bus's rule, with width n: what is handed on is the token
-abbrev pub BusCycles : ℕ → ℕ → List BusCycle → Type 0
-BusCycles n =
-    Follows
-    (λ t c. c .cycle .buffer ≡ Bus.grants n t (c .cycle .asks))
-    (λ t c. Bus.next n t (c .acknowledged) (c .cycle .asks))
+-- What follows for such a station, from any served cycle on: it is granted within N/m rounded up served cycles, the first
+-- included, unless the list ends sooner
+abbrev pub GrantedInTime : Type 0
+GrantedInTime =
+    (s : State) (calls : List (Call Engine)) (w : ℕ) (past : List (Made Engine)) (first : Made Engine) (more : List (Made Engine))
+    → served (run cycle s calls) ≡ past ++ (first ∷ more)
+    → AsksUntilGranted w (first ∷ more)
+    → let limit = ceiling (s .width) (s .picks) in
+    (0 < count (granted w) (take limit (first ∷ more))) ⊎ (length (first ∷ more) < limit)
 
--- The bus. In whatever came before and comes after: take cycles in all of which station w asks, acknowledged or not, and of
--- which exactly n are acknowledged. One of these n grants it.
+-- "An acknowledged cycle is a served one with acknowledge 1"
+abbrev pub acknowledged : Made ℕ → Bool
+acknowledged c = eqb (c .call .how) 1
+
+-- The bus. "Take any served cycles that follow one another, in all of which a station asks, unacknowledged ones too, and exactly N
+-- of which are acknowledged. One of these N grants it"
 abbrev pub BusBoundedWaiting : Type 0
 BusBoundedWaiting =
-    (n t w : ℕ) (past asking rest : List BusCycle)
-    → t < n
-    → w < n
-    → BusCycles n t (past ++ (asking ++ rest))
-    → Each (λ c. c .cycle .asks w) asking
-    → count (λ c. c .acknowledged) asking ≡ n
-    → 0 < count (λ c. c .acknowledged && grantsTo w (c .cycle)) asking
+    (s : State) (calls : List (Call ℕ)) (w : ℕ) (past asking rest : List (Made ℕ))
+    → served (run busCycle s calls) ≡ past ++ (asking ++ rest)
+    → 0 < length asking
+    → Each (asks w) asking
+    → count acknowledged asking ≡ s .width
+    → 0 < count (λ c. acknowledged c && granted w c) asking
