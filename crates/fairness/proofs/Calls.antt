@@ -3,7 +3,7 @@
 -- Assumes nothing.
 use Prim.Native.Nat.{ℕ, _<_}
 use mathlib.Core.Path.{_≡_, refl, sym, ap, _∙_}
-use mathlib.Core.Bool.{Bool}
+use mathlib.Core.Bool.{Bool, true, false, cond}
 use mathlib.Core.List.{List, [], _∷_, _++_}
 use native.Mathlib.Omega.{arith}
 use lib.Dec.{eqb}
@@ -11,7 +11,6 @@ use lib.ListN.{length}
 use borrow.Author.Tests.{eqb-true, eqb-false}
 use Rattle.rules.specs.declared.Head.{Head}
 use Rattle.rules.specs.declared.Head.the-variants.{At}
-use Rattle.rules.specs.Lists.Laws as Lists
 use Rattle.rules.specs.RoundRobin.{start, grants, next}
 use Rattle.rules.specs.Bus as BusRule
 use Rattle.arbiter.specs.declared.Answer.{Answer}
@@ -38,6 +37,14 @@ pub resumed : {C : Type 0} (right : Head → C → Type 0) (next : Head → C �
 resumed right next [] rest h run = (h, run)
 resumed right next (c ∷ cs) rest h run = resumed right next cs rest (next h c) (run .1)
 
+-- one more is kept, or is not
+kept : {C : Type 0} (right : Head → C → Type 0) (next : Head → C → Head) (h : Head) (c : C) (cs : List C) (keep : Bool)
+    → (keep ≡ true → right h c × Follows right next (next h c) cs)
+    → (keep ≡ false → Follows right next h cs)
+    → Follows right next h (cond keep (c ∷ cs) cs)
+kept right next h c cs true f g = f refl
+kept right next h c cs false f g = g refl
+
 -- the served calls of a list follow one another: `serves` and `refuses` are what is known of a single call
 module _ {How : Type 0} (leaves : How → State → List ℕ → List ℕ → Outcome) (s : State) (right : Head → Made How → Type 0)
     (next : Head → Made How → Head)
@@ -55,12 +62,10 @@ module _ {How : Type 0} (leaves : How → State → List ℕ → List ℕ → Ou
   follows h [] = tt
   follows h (c ∷ cs) =
       let o = leaves (c .how) (moved s h) (c .requests) (c .grants) in
-      Lists.split (eqb (o .answer .number) 0)
-      (λ t.
-      let r = serves h c (eqb-true _ 0 t) in
-      let k = next h (record { call = c; left = o }) in
-      rw t (r .0, from k (o .answer .state) cs (r .1) (follows k cs)))
-      (λ f. rw f (from h (o .answer .state) cs (refuses h c (eqb-false _ 0 f)) (follows h cs)))
+      let made : Made How = record { call = c; left = o } in
+      kept right next h made _ (eqb (o .answer .number) 0)
+      (λ t. let r = serves h c (eqb-true _ 0 t) in (r .0, from (next h made) _ cs (r .1) (follows (next h made) cs)))
+      (λ f. from h _ cs (refuses h c (eqb-false _ 0 f)) (follows h cs))
 
 -- a call that writes and is refused returns the state as given; `answer` is what it would answer if it were served
 writes-refused : (v : Verdict) (s : State) (answer : Answer) (target former : List ℕ) → answer .number ≡ 0

@@ -20,7 +20,7 @@ use Rattle.rules.specs.RoundRobin.Laws as Laws
 use Rattle.rules.specs.Bus as Bus
 use Rattle.rules.specs.Bus.Laws as BusLaws
 use Rattle.arbiter.specs.declared.State.{State}
-use Rattle.fairness.specs.Waiting.{Engine, Made, cycle, run, served, asks, granted, Each, ceiling, Bounded, BoundedWaiting, AsksUntilGranted, GrantedInTime, acknowledged, BusBoundedWaiting}
+use Rattle.fairness.specs.Waiting.{Engine, Call, Made, cycle, run, served, asks, granted, Each, ceiling, Bounded, BoundedWaiting, AsksUntilGranted, GrantedInTime, acknowledged, BusBoundedWaiting}
 use Rattle.fairness.proofs.Calls.{Follows, resumed, Right, nextHead, cycles, BusRight, nextToken, bus-cycles}
 
 both-false : (a b : Bool) → (a || b) ≡ false → (a ≡ false) × (b ≡ false)
@@ -181,7 +181,7 @@ bounded-waiting s calls w past waiting rest are taken asking none =
           Laws.before-length n h w (omega (arith, r .head)) station,
         ) in
         record {
-          short = below-ceiling n m (length (c ∷ cs)) (r .some) others;
+          short = omega (arith, below-ceiling n m (length (c ∷ cs)) (r .some) others);
           once = λ v.
               omega (
                 arith,
@@ -201,21 +201,27 @@ asks-each w (suc k) (c ∷ cs) until none =
     (λ t. absurd (omega (arith, ap bit t)))
     (λ f. (until .0, asks-each w k cs (until .1 f) (omega arith)))
 
+-- it is granted within any number of cycles that is N/m rounded up or more, unless there are fewer
+module _ (s : State) (calls : List (Call Engine)) (w : ℕ) (past : List (Made Engine)) (first : Made Engine) (more : List (Made Engine))
+    (are : served (run cycle s calls) ≡ past ++ (first ∷ more)) (until : AsksUntilGranted w (first ∷ more)) where
+  in-time : (limit : ℕ) → ceiling (s .width) (s .picks) ≤ limit
+      → (0 < count (granted w) (take limit (first ∷ more))) ⊎ (length (first ∷ more) < limit)
+  in-time limit enough =
+      let within = take limit (first ∷ more) in
+      let rest = drop limit (first ∷ more) in
+      let r = resumed (Right s) (nextHead s) past (first ∷ more) (s .head) (rw are at (cycles s calls)) .1 .0 in
+      let some = below-ceiling (s .width) (s .picks) 0 (r .some) (omega (arith, r .head)) in
+      let size = length-take limit (first ∷ more) in
+      Lists.split (ltb 0 (count (granted w) within))
+      (λ t. inl (ltb-true 0 _ t))
+      (λ f.
+      let none : count (granted w) within ≡ 0 = omega (arith, ltb-false 0 (count (granted w) within) f) in
+      let parts : served (run cycle s calls) ≡ past ++ (within ++ rest) = are ∙ ap (_++_ past) (sym (take-append-drop limit (first ∷ more))) in
+      let b = bounded-waiting s calls w past within rest parts (omega (arith, size, some)) (asks-each w limit (first ∷ more) until none) none in
+      inr (omega (arith, b .short, size)))
+
 pub granted-in-time : GrantedInTime
-granted-in-time s calls w past first more are until =
-    let limit = ceiling (s .width) (s .picks) in
-    let within = take limit (first ∷ more) in
-    let rest = drop limit (first ∷ more) in
-    let r = resumed (Right s) (nextHead s) past (first ∷ more) (s .head) (rw are at (cycles s calls)) .1 .0 in
-    let some : 0 < limit = below-ceiling (s .width) (s .picks) 0 (r .some) (omega (arith, r .head)) in
-    let size = length-take limit (first ∷ more) in
-    Lists.split (ltb 0 (count (granted w) within))
-    (λ t. inl (ltb-true 0 _ t))
-    (λ f.
-    let none : count (granted w) within ≡ 0 = omega (arith, ltb-false 0 (count (granted w) within) f) in
-    let parts : served (run cycle s calls) ≡ past ++ (within ++ rest) = are ∙ ap (_++_ past) (sym (take-append-drop limit (first ∷ more))) in
-    let b = bounded-waiting s calls w past within rest parts (omega (arith, size)) (asks-each w limit (first ∷ more) until none) none in
-    inr (omega (arith, b .short, size)))
+granted-in-time s calls w past first more are until = in-time s calls w past first more are until _ (omega arith)
 
 -- with the token one on, one station fewer stands before w
 bus-nearer : (n t w : ℕ) → t < n → w < n → eqb w t ≡ false
@@ -283,10 +289,10 @@ pub bus-bounded-waiting : BusBoundedWaiting
 unfolding distance
 bus-bounded-waiting s calls w past asking rest are taken asks-all exactly =
     let r = resumed (BusRight s) (nextToken s) past (asking ++ rest) (s .head) (rw are at (bus-cycles s calls)) in
-    one asking (r .0) (r .1) taken asks-all exactly
+    one asking (r .0) (r .1) taken asks-all (omega (arith, exactly))
   where
     one : (cs : List (Made ℕ)) (h : Head) → Follows (BusRight s) (nextToken s) h (cs ++ rest) → 0 < length cs → Each (asks w) cs
-        → count acknowledged cs ≡ s .width → 0 < count (λ c. acknowledged c && granted w c) cs
+        → s .width ≤ count acknowledged cs → 0 < count (λ c. acknowledged c && granted w c) cs
     one [] h follow some each all = absurd (omega arith)
     one (c ∷ cs) h follow some each all =
         let r = follow .0 in

@@ -80,10 +80,11 @@ fn grant(s: State, requests: &[u8], grants: &mut [u8], acknowledge: u8) -> Answe
     pass(s, token, acknowledge == 1).served(1)
 }
 
-// The first station that asks in the order from the token, or none. No station below the token is before one that follows it.
+// The first station that asks in the order from the token, or none. Where none from the token to the last asks, it is the first
+// that asks at all.
 fn first_request(s: State, token: usize, requests: &[u8]) -> Head
     requires { ⌜ token ≡ Calls.token s ⌝ }
-    requires { ⌜ token < s .width ⌝ }
+    requires { ⌜ Calls.token s < s .width ⌝ }
     requires { ⌜ length (now requests) ≡ s .width ⌝ }
     ensures { λ r. ⌜ r ≡ Places.first (Bus.granted (s .width) (Calls.token s) (asking s (now (requests .entry)))) ⌝ }
 {

@@ -8,9 +8,19 @@ use native.Mathlib.Omega.{arith}
 use lib.Dec.{eqb}
 use lib.ListN.{length, getD}
 use borrow.Author.Tests.{eqb-true, eqb-false}
-use Rattle.rules.specs.declared.Head.the-variants.{At}
+use Rattle.rules.specs.declared.Head.the-variants.{None, At}
 use Rattle.rules.specs.Lists.Laws as Lists
 use Rattle.arbiter.specs.Places.{places, first}
+
+-- a list without a first is empty
+pub first-none : (ps : List ℕ) → first ps ≡ None → ps ≡ []
+first-none [] e = refl
+first-none (p ∷ ps) e = let z : _≡_ {A = ℕ} 0 1 = cc in absurd (omega arith)
+
+-- and one with a first begins with it
+pub first-some : (ps : List ℕ) (w : ℕ) → first ps ≡ At w → (rest : List ℕ) × (ps ≡ w ∷ rest)
+first-some [] w e = let z : _≡_ {A = ℕ} 0 1 = cc in absurd (omega arith)
+first-some (p ∷ ps) w e = let same : p ≡ w = cc in (ps, rw same)
 
 -- no byte from one place up to another passes
 pub record Free (test : ℕ → Bool) (from to : ℕ) (bytes : List ℕ) : Type 0 where
@@ -53,20 +63,16 @@ pub record Found (test : ℕ → Bool) (from i : ℕ) (bytes : List ℕ) : Type 
   pub all : places test from bytes ≡ i ∷ places test (suc i) bytes
 
 pub found : (test : ℕ → Bool) (from i : ℕ) (bytes : List ℕ) → first (places test from bytes) ≡ At i → Found test from i bytes
-found test from i bytes e = by (places test from bytes) refl e
-  where
-    by : (ps : List ℕ) → places test from bytes ≡ ps → first ps ≡ At i → Found test from i bytes
-    by [] q f = let z : _≡_ {A = ℕ} 0 1 = cc in absurd (omega arith)
-    by (p ∷ ps) q f =
-        let same : p ≡ i = cc in
-        let r = Lists.first-of (λ k. test (getD bytes k 0)) from (length bytes - from) p ps q in
-        let left : from + (length bytes - from) - suc p ≡ length bytes - suc i = omega (arith, r .low, r .high) in
-        record {
-          low = omega (arith, r .low);
-          high = omega (arith, r .low, r .high);
-          passes = rw same at (r .passes);
-          all = q ∙ rw (r .rest, left, same);
-        }
+found test from i bytes e =
+    let q = first-some (places test from bytes) i e in
+    let r = Lists.first-of (λ k. test (getD bytes k 0)) from (length bytes - from) i (q .0) (q .1) in
+    let left : from + (length bytes - from) - suc i ≡ length bytes - suc i = omega (arith, r .low, r .high) in
+    record {
+      low = r .low;
+      high = omega (arith, r .low, r .high);
+      passes = r .passes;
+      all = q .1 ∙ rw (r .rest, left);
+    }
 
 -- where there is no such place no byte passes
 pub free-of : {test : ℕ → Bool} {from : ℕ} {bytes : List ℕ} → places test from bytes ≡ [] → Free test from (length bytes) bytes

@@ -17,7 +17,7 @@ use Rattle.rules.specs.RoundRobin.Laws as RoundRobin
 use Rattle.arbiter.specs.declared.State.{State}
 use Rattle.arbiter.specs.declared.question.Verdict.{Verdict}
 use Rattle.arbiter.specs.Places.{ones, first}
-use Rattle.arbiter.specs.Places.Laws.{found, free-of}
+use Rattle.arbiter.specs.Places.Laws.{first-none, first-some, found, free-of}
 use Rattle.arbiter.specs.Questions.{refuseUnless, refuseAtFirst, _then_, maxWidth, width, treeWidth, picks, onePick, head, token, writeLength, bits, oneHot, state, write}
 
 -- r is the verdict on a, the first question. If it refuses, it decides
@@ -59,12 +59,10 @@ unless-served false k place z = absurd (omega arith)
 
 -- a question with a place refuses at the first, if there is one
 pub refuse-none : (k : ℕ) (ps : List ℕ) → first ps ≡ None → refuseAtFirst k ps ≡ refuseUnless true k 0
-refuse-none k [] e = refl
-refuse-none k (p ∷ ps) e = let z : _≡_ {A = ℕ} 0 1 = cc in absurd (omega arith)
+refuse-none k ps e = ap (refuseAtFirst k) (first-none ps e)
 
 pub refuse-at : (k i : ℕ) (ps : List ℕ) → first ps ≡ At i → refuseAtFirst k ps ≡ refuseUnless false k i
-refuse-at k i [] e = let z : _≡_ {A = ℕ} 0 1 = cc in absurd (omega arith)
-refuse-at k i (p ∷ ps) e = let same : p ≡ i = cc in rw same
+refuse-at k i ps e = ap (refuseAtFirst k) (first-some ps i e .1)
 
 -- it passes where there is none
 pub first-served : (k : ℕ) (ps : List ℕ) → (refuseAtFirst (suc k) ps) .number ≡ 0 → ps ≡ []
@@ -73,11 +71,7 @@ first-served k (p ∷ ps) z = absurd (omega arith)
 
 -- an image with no 1
 pub one-hot-none : (image : List ℕ) → first (ones 0 image) ≡ None → oneHot image ≡ refuseUnless true 10 0
-one-hot-none image e = by (ones 0 image) e
-  where
-    by : (ps : List ℕ) → first ps ≡ None → refuseAtFirst 10 (drop 1 ps) ≡ refuseUnless true 10 0
-    by [] f = refl
-    by (p ∷ ps) f = let z : _≡_ {A = ℕ} 0 1 = cc in absurd (omega arith)
+one-hot-none image e = ap (λ (ps : List ℕ). refuseAtFirst 10 (drop 1 ps)) (first-none (ones 0 image) e)
 
 -- an image whose first 1 is at i: the second is the first after it
 pub one-hot-rest : (image : List ℕ) (i : ℕ) → first (ones 0 image) ≡ At i → oneHot image ≡ refuseAtFirst 10 (ones (i + 1) image)

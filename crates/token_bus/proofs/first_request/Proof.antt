@@ -1,10 +1,8 @@
 -- `first_request` meets its contract: first those from the token on, then all.
 -- Assumes nothing.
-use Prim.Native.Nat.{ℕ}
-use mathlib.Core.Path.{sym, ap, _∙_}
-use Rattle.arbiter.specs.Places.{ones, first}
-use Rattle.token_bus.specs.Calls.Laws.{found-high, found-low}
+use mathlib.Core.Path.{sym, _∙_}
 use borrow.Author.Needs.{needs}
+use Rattle.token_bus.specs.Calls.Laws.{found-high, found-low}
 use Rattle.token_bus.proofs.first_request.Statement.{statement}
 use Rattle.token_bus.proofs.first_request.Tie as tie
 
@@ -24,17 +22,17 @@ returns : tie.Need-returns
 returns c =
     let r = c .before .before .before in
     let b = r .before .before in
-    let t = ap (λ (k : ℕ). first (ones k (b .args .requests .now))) (b .pre .0) in
-    c .first-one2 .ensures
-    ∙ found-low (b .args .s) (b .args .requests .now) (rw (b .pre .0) at (b .pre .1 .0)) (b .pre .1 .1) (sym t ∙ sym (r .first-one .ensures) ∙ c .before .enum-told .given .1)
+    let a = b .args in
+    let none = sym (r .first-one .ensures) ∙ c .before .enum-told .given .1 in
+    c .first-one2 .ensures ∙ found-low (a .s) (a .requests .now) (b .pre .1 .0) (a .token) (b .pre .0) (b .pre .1 .1) none
 
 returns-2 : tie.Need-returns-2
 returns-2 c =
     let r = c .before .before in
     let b = r .before .before in
+    let a = b .args in
     let is = c .enum-told2 .given .1 in
-    let t = ap (λ (k : ℕ). first (ones k (b .args .requests .now))) (b .pre .0) in
-    is ∙ found-high (b .args .s) (b .args .requests .now) (rw (b .pre .0) at (b .pre .1 .0)) _ (b .pre .1 .1) (sym t ∙ sym (r .first-one .ensures) ∙ is)
+    is ∙ found-high (a .s) (a .requests .now) (b .pre .1 .0) (a .token) _ (b .pre .0) (b .pre .1 .1) (sym (r .first-one .ensures) ∙ is)
 
 pub first-request-spec : {M : Type 1} → statement M
 first-request-spec =

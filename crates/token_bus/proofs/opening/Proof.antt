@@ -1,10 +1,10 @@
 -- `opening` meets its contract.
 -- Assumes nothing.
 use mathlib.Core.Path.{ap, _∙_}
+use borrow.Author.Needs.{needs}
 use Rattle.arbiter.specs.declared.State.{State}
 use Rattle.arbiter.specs.declared.question.Verdict.{Verdict}
 use Rattle.arbiter.specs.Answers.{opened}
-use borrow.Author.Needs.{needs}
 use Rattle.token_bus.proofs.opening.Statement.{statement}
 use Rattle.token_bus.proofs.opening.Tie as tie
 

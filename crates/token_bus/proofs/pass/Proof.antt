@@ -3,9 +3,9 @@
 use Prim.Native.Nat.{_+_, _%_}
 use mathlib.Core.Bool.{Bool, cond}
 use mathlib.Core.Path.{sym, ap, _∙_}
+use borrow.Author.Needs.{needs}
 use Rattle.rules.specs.declared.Head.the-variants.{At}
 use Rattle.arbiter.specs.Answers.{moved}
-use borrow.Author.Needs.{needs}
 use Rattle.token_bus.proofs.pass.Statement.{statement}
 use Rattle.token_bus.proofs.pass.Tie as tie
 

@@ -10,9 +10,8 @@ use native.Mathlib.Nat.{zero-add}
 use lib.Dec.{eqb, ltb}
 use lib.ListN.{length, set, replicate}
 use borrow.Author.Tests.{eq-eqb, ltb-true, ltb-false}
-use Rattle.rules.specs.declared.Head.{Head}
 use Rattle.rules.specs.declared.Head.the-variants.{None, At}
-use Rattle.rules.specs.Lists.{range, filter, count, marks}
+use Rattle.rules.specs.Lists.{bit, range, filter, count, marks}
 use Rattle.rules.specs.Lists.Laws as Lists
 use Rattle.rules.specs.RoundRobin.{start, order}
 use Rattle.rules.specs.RoundRobin.Laws as RoundRobin
@@ -21,9 +20,10 @@ use Rattle.rules.specs.Bus.Laws as BusLaws
 use Rattle.arbiter.specs.declared.State.{State}
 use Rattle.arbiter.specs.declared.question.Verdict.{Verdict}
 use Rattle.arbiter.specs.Places.{ones, first}
+use Rattle.arbiter.specs.Places.Laws.{first-none, first-some}
 use Rattle.arbiter.specs.Questions as Questions
 use Rattle.arbiter.specs.Questions.{_then_}
-use Rattle.arbiter.specs.Questions.Laws.{then-served, width-served, one-pick-served, token-served, length-served}
+use Rattle.arbiter.specs.Questions.Laws.{then-served, width-served, token-served, length-served}
 use Rattle.arbiter.specs.Answers.{moved, served}
 use Rattle.arbiter.specs.Cycle.{asking}
 use Rattle.token_bus.specs.Calls.{state, token, acknowledged, answer, granting, questions}
@@ -31,8 +31,6 @@ use Rattle.token_bus.specs.Calls.{state, token, acknowledged, answer, gr
 -- what is known of a state once 1, 3 and 4 have passed
 pub record Allowed (s : State) : Type 0 where
   pub most : s .width ≤ Questions.maxWidth
-  pub one : s .picks ≡ 1
-  pub here : s .head ≡ At (token s)
   pub station : token s < s .width
 
 pub allowed : (s : State) → (state s) .number ≡ 0 → Allowed s
@@ -44,9 +42,7 @@ allowed s z =
     let is : token s ≡ t .0 = ap start (t .2) ∙ RoundRobin.start-at (t .0) in
     record {
       most = width-served n (a .0) .1;
-      one = one-pick-served (s .picks) (a .1);
-      here = t .2 ∙ ap At (sym is);
-      station = omega (arith, t .1);
+      station = omega (arith, is, t .1);
     }
 
 -- what is known of a cycle once all its questions have passed: r is the verdict that the call has in hand
@@ -72,20 +68,14 @@ ready s requests size byte e z =
       room = length-served 5 n size (b .1);
     }
 
--- a list without a first is empty
-first-none : (ps : List ℕ) → first ps ≡ None → ps ≡ []
-first-none [] e = refl
-first-none (p ∷ ps) e = let z : _≡_ {A = ℕ} 0 1 = cc in absurd (omega arith)
-
 -- a list of one at most is its first
 first-only : (ps : List ℕ) (w : ℕ) → length ps ≤ 1 → first ps ≡ At w → ps ≡ w ∷ []
-first-only [] w l e = let z : _≡_ {A = ℕ} 0 1 = cc in absurd (omega arith)
-first-only (p ∷ ps) w l e = let same : p ≡ w = cc in rw (same, Lists.empty ps (omega arith))
+first-only ps w l e =
+    let r = first-some ps w e in r .1 ∙ ap {B = List ℕ} (λ rest. w ∷ rest) (Lists.empty (r .0) (omega (arith, ap length (r .1))))
 
 -- what is first stays first where more follows
 first-append : (ps qs : List ℕ) (w : ℕ) → first ps ≡ At w → first (ps ++ qs) ≡ At w
-first-append [] qs w e = let z : _≡_ {A = ℕ} 0 1 = cc in absurd (omega arith)
-first-append (p ∷ ps) qs w e = e
+first-append ps qs w e = ap (λ (l : List ℕ). first (l ++ qs)) (first-some ps w e .1)
 
 module _ (n t : ℕ) (asks : ℕ → Bool) (station : t < n) where
   -- those that ask, in the order from the token
@@ -99,16 +89,14 @@ module _ (n t : ℕ) (asks : ℕ → Bool) (station : t < n) where
       (λ l. ltb-true w n l)
       (λ g.
       let head = BusLaws.token-head n t station in
+      let r = first-some asked-in-order w e in
       absurd (omega (
         arith,
-        first-counted w asked-in-order e,
+        ap (count (eqb w)) (r .1),
+        ap bit (eq-eqb w w refl),
         Lists.count-filter-le (eqb w) asks (order n (At t)),
         RoundRobin.order-outside n (At t) w (omega arith) (ltb-false w n g),
       )))
-    where
-      first-counted : (v : ℕ) (ps : List ℕ) → first ps ≡ At v → 0 < count (eqb v) ps
-      first-counted v [] f = let z : _≡_ {A = ℕ} 0 1 = cc in absurd (omega arith)
-      first-counted v (p ∷ ps) f = let same : p ≡ v = cc in rw (same, eq-eqb v v refl) (omega arith)
 
   -- the bus grants the first of them
   first-granted : first (Bus.granted n t asks) ≡ first asked-in-order
@@ -146,20 +134,20 @@ module _ (s : State) (requests : List ℕ) (station : token s < s .width) where
   abbrev granted : List ℕ
   granted = Bus.granted n (token s) (asking s requests)
 
-  -- a search from the token on finds whom the bus grants, or no one
-  pub found-high : (w : ℕ) → length requests ≡ n → first (ones (token s) requests) ≡ At w → At w ≡ first granted
-  found-high w long e =
+  -- t is the token that the call has in hand. A search from there on finds whom the bus grants, or no one
+  pub found-high : (t w : ℕ) → t ≡ token s → length requests ≡ n → first (ones t requests) ≡ At w → At w ≡ first granted
+  found-high t w is long e =
       let asks = asking s requests in
       sym (first-granted n (token s) asks station
       ∙ ap first (in-two-runs n (token s) asks station)
-      ∙ first-append (filter asks (range (token s) (n - token s))) (filter asks (range 0 (token s))) w (rw long at e))
+      ∙ first-append (filter asks (range (token s) (n - token s))) (filter asks (range 0 (token s))) w (rw (is, long) at e))
 
   -- and then one from 0 on finds whom it grants
-  pub found-low : length requests ≡ n → first (ones (token s) requests) ≡ None → first (ones 0 requests) ≡ first granted
-  found-low long e =
+  pub found-low : (t : ℕ) → t ≡ token s → length requests ≡ n → first (ones t requests) ≡ None → first (ones 0 requests) ≡ first granted
+  found-low t is long e =
       let asks = asking s requests in
       let all : length requests - 0 ≡ n = omega arith in
-      rw all (below-token n (token s) asks station (first-none _ (rw long at e)))
+      rw all (below-token n (token s) asks station (first-none _ (rw (is, long) at e)))
       ∙ sym (first-granted n (token s) asks station)
 
   -- no grant: the token stays

@@ -2,9 +2,9 @@
 -- Assumes nothing.
 use mathlib.Core.Path.{_∙_}
 use lib.ListN.{length}
+use borrow.Author.Needs.{needs}
 use Rattle.arbiter.specs.Answers.Laws.{written, unwritten}
 use Rattle.token_bus.specs.Calls.Laws.{Ready, ready}
-use borrow.Author.Needs.{needs}
 use Rattle.token_bus.proofs.TokenBus.cycle.Statement.{statement}
 use Rattle.token_bus.proofs.TokenBus.cycle.Tie as tie
 

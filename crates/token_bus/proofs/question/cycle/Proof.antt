@@ -2,11 +2,11 @@
 -- Assumes nothing.
 use mathlib.Core.Path.{_≡_, sym, _∙_}
 use lib.ListN.{length}
+use borrow.Author.Needs.{needs}
 use Rattle.arbiter.specs.Questions as Questions
 use Rattle.arbiter.specs.Questions.{_then_}
 use Rattle.arbiter.specs.Questions.Laws.{refused, passed, chained, then-assoc}
 use Rattle.token_bus.specs.Calls as Calls
-use borrow.Author.Needs.{needs}
 use Rattle.token_bus.proofs.question.cycle.Statement.{statement}
 use Rattle.token_bus.proofs.question.cycle.Tie as tie
 

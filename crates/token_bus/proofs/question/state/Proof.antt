@@ -1,7 +1,7 @@
 -- `state` meets its contract: the questions in their order.
 -- Assumes nothing.
-use Rattle.arbiter.specs.Questions.Laws.{chained}
 use borrow.Author.Needs.{needs}
+use Rattle.arbiter.specs.Questions.Laws.{chained}
 use Rattle.token_bus.proofs.question.state.Statement.{statement}
 use Rattle.token_bus.proofs.question.state.Tie as tie
 

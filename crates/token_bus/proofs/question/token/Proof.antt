@@ -1,8 +1,8 @@
 -- `token` meets its contract.
 -- Assumes nothing.
 use mathlib.Core.Path.{sym, ap, _∙_}
-use Rattle.arbiter.specs.Questions as Questions
 use borrow.Author.Needs.{needs}
+use Rattle.arbiter.specs.Questions as Questions
 use Rattle.token_bus.proofs.question.token.Statement.{statement}
 use Rattle.token_bus.proofs.question.token.Tie as tie
 
