@@ -11,7 +11,7 @@ use lib.ListN.{length}
 use borrow.Author.Tests.{eqb-true, eqb-false}
 use Rattle.rules.specs.declared.Head.{Head}
 use Rattle.rules.specs.declared.Head.the-variants.{At}
-use Rattle.rules.specs.RoundRobin.{start, grants, next}
+use Rattle.rules.specs.RoundRobin.{start, next}
 use Rattle.rules.specs.Bus as BusRule
 use Rattle.arbiter.specs.declared.Answer.{Answer}
 use Rattle.arbiter.specs.declared.State.{State}
@@ -96,11 +96,12 @@ cycle-served s requests former z =
       grants = ap (λ (o : Outcome). o .written) is;
     }
 
--- and so is one by the tree
+-- the tree's cycle: its questions
 module _ (s : State) (requests former nodes : List ℕ) where
   abbrev asked : Verdict
   asked = Tree.questions s requests (length former) (length nodes)
 
+  -- served, it is by the rule as well
   tree-served : let o = Tree.cycle s requests former nodes in o .answer .number ≡ 0
       → Ruled s requests (record { answer = o .answer; written = o .grants })
   unfolding Tree.cycle
@@ -115,6 +116,7 @@ module _ (s : State) (requests former nodes : List ℕ) where
         grants = ap (λ (o : Tree.Outcome). o .grants) (passed-is asked _ _ p);
       }
 
+  -- refused, it returns the state as given
   tree-refused : let o = Tree.cycle s requests former nodes in (o .answer .number ≡ 0 → ⊥) → o .answer .state ≡ s
   unfolding Tree.cycle
   tree-refused n =
@@ -138,9 +140,11 @@ engine-refused (tree nodes) s requests former n = tree-refused s requests former
 abbrev pub Right : State → Head → Made Engine → Type 0
 Right s h c = Ruled (moved s h) (c .call .requests) (c .left)
 
+-- the head after it
 abbrev pub nextHead : State → Head → Made Engine → Head
 nextHead s h c = next (s .width) (s .picks) h (λ w. asks w c)
 
+-- the served calls of a list by the three follow the rule
 pub cycles : (s : State) (calls : List (Call Engine)) → Follows (Right s) (nextHead s) (s .head) (served (run cycle s calls))
 cycles s calls =
     follows cycle s (Right s) (nextHead s)
@@ -176,9 +180,11 @@ bus-served byte s requests former z =
 abbrev pub BusRight : State → Head → Made ℕ → Type 0
 BusRight s h c = BusRuled (moved s h) (c .call .requests) (c .call .how) (c .left)
 
+-- the token after it, as a head
 abbrev pub nextToken : State → Head → Made ℕ → Head
 nextToken s h c = At (BusRule.next (s .width) (start h) (acknowledged c) (λ w. asks w c))
 
+-- the served calls of a list of bus calls follow the bus's rule
 pub bus-cycles : (s : State) (calls : List (Call ℕ)) → Follows (BusRight s) (nextToken s) (s .head) (served (run busCycle s calls))
 bus-cycles s calls =
     follows busCycle s (BusRight s) (nextToken s)
