@@ -1,5 +1,5 @@
 -- What is known of the calls of a list: of a served one, that its grants and its next head are the rule's; of a refused one, that
--- it returns the state as given.
+-- it changes nothing.
 -- Assumes nothing.
 use Prim.Native.Nat.{ℕ, _<_}
 use mathlib.Core.Path.{_≡_, refl, sym, ap, _∙_}
@@ -24,7 +24,7 @@ use Rattle.tree.specs.Calls as Tree
 use Rattle.tree.specs.Calls.Laws as TreeLaws
 use Rattle.token_bus.specs.Calls as Bus
 use Rattle.token_bus.specs.Calls.Laws as BusLaws
-use Rattle.fairness.specs.Waiting.{Engine, scan, tree, thermometer, Call, Made, cycle, busCycle, run, served, asks, acknowledged}
+use Rattle.fairness.specs.Waiting.{Engine, scan, tree, thermometer, Call, Made, cycle, busCycle, RefusedUnchanged, run, served, asks, acknowledged}
 
 -- cycles that follow one another from a head: each is right for the head it gets, and hands the next head on
 abbrev pub Follows : {C : Type 0} → (Head → C → Type 0) → (Head → C → Head) → Head → List C → Type 0
@@ -51,8 +51,7 @@ module _ {How : Type 0} (leaves : How → State → List ℕ → List ℕ → Ou
     (serves : (h : Head) (c : Call How) → let o = leaves (c .how) (moved s h) (c .requests) (c .grants) in
     let made : Made How = record { call = c; left = o } in
     o .answer .number ≡ 0 → right h made × (o .answer .state ≡ moved s (next h made)))
-    (refuses : (h : Head) (c : Call How) → let o = leaves (c .how) (moved s h) (c .requests) (c .grants) in
-    (o .answer .number ≡ 0 → ⊥) → o .answer .state ≡ moved s h) where
+    (refuses : RefusedUnchanged leaves) where
   -- from the state that a call returned
   from : (k : Head) (q : State) (calls : List (Call How)) → q ≡ moved s k → Follows right next k (served (run leaves (moved s k) calls))
       → Follows right next k (served (run leaves q calls))
@@ -65,14 +64,16 @@ module _ {How : Type 0} (leaves : How → State → List ℕ → List ℕ → Ou
       let made : Made How = record { call = c; left = o } in
       kept right next h made _ (eqb (o .answer .number) 0)
       (λ t. let r = serves h c (eqb-true _ 0 t) in (r .0, from (next h made) _ cs (r .1) (follows (next h made) cs)))
-      (λ f. from h _ cs (refuses h c (eqb-false _ 0 f)) (follows h cs))
+      (λ f. from h _ cs (refuses (c .how) (moved s h) (c .requests) (c .grants) (eqb-false _ 0 f) .0) (follows h cs))
 
--- a call that writes and is refused returns the state as given; `answer` is what it would answer if it were served
+-- a call that writes and is refused changes nothing; `answer` is what it would answer if it were served
 writes-refused : (v : Verdict) (s : State) (answer : Answer) (target former : List ℕ) → answer .number ≡ 0
-    → ((writes v s answer target former) .answer .number ≡ 0 → ⊥) → (writes v s answer target former) .answer .state ≡ s
+    → let o = writes v s answer target former in
+    (o .answer .number ≡ 0 → ⊥) → (o .answer .state ≡ s) × (o .written ≡ former)
 writes-refused v s answer target former z n =
     let fails : v .number ≡ 0 → ⊥ = λ p. n (ap (λ (o : Outcome). o .answer .number) (writes-is v s answer target former p) ∙ z) in
-    ap (λ (a : Answer). a .state) (sym (unwritten answer target former refl fails refl .0))
+    let u = unwritten answer target former refl fails refl in
+    (ap (λ (a : Answer). a .state) (sym (u .0)), sym (u .1))
 
 -- a call that is served by the round-robin rule
 pub record Ruled (s : State) (requests : List ℕ) (o : Outcome) : Type 0 where
@@ -116,12 +117,14 @@ module _ (s : State) (requests former nodes : List ℕ) where
         grants = ap (λ (o : Tree.Outcome). o .grants) (passed-is asked _ _ p);
       }
 
-  -- refused, it returns the state as given
-  tree-refused : let o = Tree.cycle s requests former nodes in (o .answer .number ≡ 0 → ⊥) → o .answer .state ≡ s
+  -- refused, it changes nothing
+  tree-refused : let o = Tree.cycle s requests former nodes in
+      (o .answer .number ≡ 0 → ⊥) → (o .answer .state ≡ s) × (o .grants ≡ former)
   unfolding Tree.cycle
   tree-refused n =
       let fails : asked .number ≡ 0 → ⊥ = λ p. n (ap (λ (o : Tree.Outcome). o .answer .number) (passed-is asked _ _ p)) in
-      ap (λ (o : Tree.Outcome). o .answer .state) (sym (if-refused _ refl fails refl))
+      let is = sym (if-refused _ refl fails refl) in
+      (ap (λ (o : Tree.Outcome). o .answer .state) is, ap (λ (o : Tree.Outcome). o .grants) is)
 
 -- so any call of the three follows the rule, or changes nothing
 engine-served : (e : Engine) (s : State) (requests former : List ℕ) → (cycle e s requests former) .answer .number ≡ 0
@@ -130,11 +133,10 @@ engine-served scan s requests former z = cycle-served s requests former z
 engine-served thermometer s requests former z = cycle-served s requests former z
 engine-served (tree nodes) s requests former z = tree-served s requests former nodes z
 
-engine-refused : (e : Engine) (s : State) (requests former : List ℕ) → ((cycle e s requests former) .answer .number ≡ 0 → ⊥)
-    → (cycle e s requests former) .answer .state ≡ s
-engine-refused scan s requests former n = writes-refused _ s _ _ former refl n
-engine-refused thermometer s requests former n = writes-refused _ s _ _ former refl n
-engine-refused (tree nodes) s requests former n = tree-refused s requests former nodes n
+pub refused-unchanged : RefusedUnchanged cycle
+refused-unchanged scan s requests former n = writes-refused _ s _ _ former refl n
+refused-unchanged thermometer s requests former n = writes-refused _ s _ _ former refl n
+refused-unchanged (tree nodes) s requests former n = tree-refused s requests former nodes n
 
 -- a served cycle of a list, with head h before it
 abbrev pub Right : State → Head → Made Engine → Type 0
@@ -151,7 +153,7 @@ cycles s calls =
     (λ h c z.
     let r = engine-served (c .how) (moved s h) (c .requests) (c .grants) z in
     (r, ap (λ (a : Answer). a .state) (r .answers)))
-    (λ h c n. engine-refused (c .how) (moved s h) (c .requests) (c .grants) n)
+    refused-unchanged
     (s .head)
     calls
 
@@ -176,6 +178,9 @@ bus-served byte s requests former z =
       grants = ap (λ (o : Outcome). o .written) is;
     }
 
+pub bus-refused-unchanged : RefusedUnchanged busCycle
+bus-refused-unchanged byte s requests former n = writes-refused _ s _ _ former refl n
+
 -- a served cycle of the bus, with the token before it in head h
 abbrev pub BusRight : State → Head → Made ℕ → Type 0
 BusRight s h c = BusRuled (moved s h) (c .call .requests) (c .call .how) (c .left)
@@ -191,6 +196,6 @@ bus-cycles s calls =
     (λ h c z.
     let r = bus-served (c .how) (moved s h) (c .requests) (c .grants) z in
     (r, ap (λ (a : Answer). a .state) (r .answers)))
-    (λ h c n. writes-refused _ (moved s h) _ _ (c .grants) refl n)
+    bus-refused-unchanged
     (s .head)
     calls

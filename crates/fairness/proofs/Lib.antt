@@ -1,2 +1,2 @@
-mod Calls
+pub mod Calls
 pub mod Waiting

@@ -44,6 +44,13 @@ cycle (tree nodes) s requests grants =
 abbrev pub busCycle : ℕ → State → List ℕ → List ℕ → Outcome
 busCycle acknowledge s requests grants = Bus.cycle s requests grants acknowledge
 
+-- "a refused one changes nothing": it returns the state that it was given, and the grant buffer keeps its bytes
+abbrev pub RefusedUnchanged : {How : Type 0} → (How → State → List ℕ → List ℕ → Outcome) → Type 0
+RefusedUnchanged {How} leaves =
+    (how : How) (s : State) (requests grants : List ℕ)
+    → let o = leaves how s requests grants in
+    (o .answer .number ≡ 0 → ⊥) → (o .answer .state ≡ s) × (o .written ≡ grants)
+
 -- a list of calls: "Each cycle gets the state the last one returned", a refused one too
 abbrev pub run : {How : Type 0} → (How → State → List ℕ → List ℕ → Outcome) → State → List (Call How) → List (Made How)
 run leaves s [] = []
