@@ -31,16 +31,16 @@ bit-bit : (b : Bool) → bit (eqb (bit b) 1) ≡ bit b
 bit-bit true = refl
 bit-bit false = refl
 
--- a byte that is 1 is one of the buffer
-inside : (bytes : List ℕ) (w : ℕ) → eqb (getD bytes w 0) 1 ≡ true → w < length bytes
-inside bytes w e =
-    Lists.split (ltb w (length bytes))
-    (λ t. ltb-true w (length bytes) t)
+-- whoever asks is a station: its byte is one of the n
+asking-station : (bytes : List ℕ) (n w : ℕ) → length bytes ≡ n → eqb (getD bytes w 0) 1 ≡ true → w < n
+asking-station bytes n w long e =
+    Lists.split (ltb w n)
+    (λ t. ltb-true w n t)
     (λ f.
     absurd (omega (
       arith,
       eqb-true (getD bytes w 0) 1 e,
-      List·getD-eq-default bytes 0 {n = w} (ltb-false w (length bytes) f),
+      List·getD-eq-default bytes 0 {n = w} (omega (arith, ltb-false w n f)),
     )))
 
 -- an order cut at the one granted last: w asks, is in the order and is not granted, so it stands behind the cut
@@ -144,7 +144,7 @@ module _ (s : State) where
     waited [] rest h follow asking none = omega arith
     waited (c ∷ cs) rest h follow asking none =
         let r = follow .0 in
-        let station : w < n = omega (arith, r .asked, inside (c .call .requests) w (asking .0)) in
+        let station = asking-station (c .call .requests) n w (r .asked) (asking .0) in
         let out : member w (ruled h c) ≡ false = not-granted h c w r station (omega arith) in
         omega (
           arith,
@@ -169,7 +169,7 @@ bounded-waiting s calls w past waiting rest are taken asking none =
         let n = s .width in
         let m = s .picks in
         let r = follow .0 in
-        let station : w < n = omega (arith, r .asked, inside (c .call .requests) w (each .0)) in
+        let station = asking-station (c .call .requests) n w (r .asked) (each .0) in
         let others : length (c ∷ cs) * m < n =
         omega (
           arith,
@@ -248,7 +248,7 @@ module _ (s : State) (w : ℕ) where
       let n = s .width in
       let t = start h in
       let r = follow .0 in
-      let station : w < n = omega (arith, r .asked, inside (c .call .requests) w (asking .0)) in
+      let station = asking-station (c .call .requests) n w (r .asked) (asking .0) in
       let k = nextToken s h c in
       let at : distance k ≡ length (before w (order n (At (Bus.next n t (acknowledged c) (λ v. asks v c))))) =
       ap (λ (u : ℕ). length (before w (order n (At u)))) (Laws.start-at _) in
@@ -296,7 +296,7 @@ bus-bounded-waiting s calls w past asking rest are taken asks-all exactly =
     one [] h follow some each all = absurd (omega arith)
     one (c ∷ cs) h follow some each all =
         let r = follow .0 in
-        let station : w < s .width = omega (arith, r .asked, inside (c .call .requests) w (each .0)) in
+        let station = asking-station (c .call .requests) (s .width) w (r .asked) (each .0) in
         let head = BusLaws.token-head (s .width) (start h) (r .token) in
         acknowledged-grant s w (c ∷ cs) rest h follow each
         (omega (arith, Laws.before-length (s .width) (At (start h)) w (omega arith) station))

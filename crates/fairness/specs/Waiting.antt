@@ -111,7 +111,7 @@ GrantedInTime =
 
 -- "An acknowledged cycle is a served one with acknowledge 1"
 abbrev pub acknowledged : Made ℕ → Bool
-acknowledged c = eqb (c .call .how) 1
+acknowledged c = Bus.acknowledged (c .call .how)
 
 -- The bus. "Take any served cycles that follow one another, in all of which a station asks, unacknowledged ones too, and exactly N
 -- of which are acknowledged. One of these N grants it"

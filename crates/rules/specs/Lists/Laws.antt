@@ -217,6 +217,10 @@ pub range-append : (a j k : ℕ) → range a (j + k) ≡ range a j ++ range (a +
 range-append a zero k = rw (zero-add, add-zero)
 range-append a (suc j) k = rw (suc-add j k, add-suc a j, ← suc-add a j) (ap {B = List ℕ} (λ l. a ∷ l) (range-append (suc a) j k))
 
+-- the numbers below n: those below s, and those from s on
+pub range-split : (n s : ℕ) → s ≤ n → range 0 n ≡ range 0 s ++ range s (n - s)
+range-split n s l = let whole : s + (n - s) ≡ n = omega arith in rw (whole, zero-add) at (range-append 0 s (n - s))
+
 -- a range and its last number
 pub range-snoc : (a k : ℕ) → range a (suc k) ≡ range a k ++ ((a + k) ∷ [])
 range-snoc a k = rw (add-one k) at (range-append a k 1)

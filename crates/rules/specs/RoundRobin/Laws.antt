@@ -39,9 +39,7 @@ from n s = range s (n - s) ++ range 0 s
 
 from-count : (n s : ℕ) (p : ℕ → Bool) → s ≤ n → count p (from n s) ≡ count p (range 0 n)
 from-count n s p l =
-    let whole : s + (n - s) ≡ n = omega arith in
-    let parts : range 0 n ≡ range 0 s ++ range s (n - s) = rw (whole, zero-add) at (Lists.range-append 0 s (n - s)) in
-    rw parts (omega (arith, Lists.count-append p (range s (n - s)) (range 0 s), Lists.count-append p (range 0 s) (range s (n - s))))
+    rw (Lists.range-split n s l) (omega (arith, Lists.count-append p (range s (n - s)) (range 0 s), Lists.count-append p (range 0 s) (range s (n - s))))
 
 -- one past s is s + 1, or 0 where s is the last station
 past : (n s : ℕ) → s < n → (((s + 1) % n ≡ suc s) × (suc s < n)) ⊎ (((s + 1) % n ≡ 0) × (suc s ≡ n))

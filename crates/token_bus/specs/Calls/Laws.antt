@@ -6,7 +6,6 @@ use mathlib.Core.Path.{_≡_, refl, sym, ap, _∙_}
 use mathlib.Core.Bool.{Bool, true, false, cond}
 use mathlib.Core.List.{List, [], _∷_, _++_, append-nil}
 use native.Mathlib.Omega.{arith}
-use native.Mathlib.Nat.{zero-add}
 use lib.Dec.{eqb, ltb}
 use lib.ListN.{length, set, replicate}
 use borrow.Author.Tests.{eq-eqb, ltb-true, ltb-false}
@@ -119,10 +118,8 @@ module _ (n t : ℕ) (asks : ℕ → Bool) (station : t < n) where
   -- where none of those asks, the first that asks at all comes first
   below-token : filter asks (range t (n - t)) ≡ [] → first (filter asks (range 0 n)) ≡ first asked-in-order
   below-token e =
-      let whole : t + (n - t) ≡ n = omega arith in
-      let parts : range 0 n ≡ range 0 t ++ range t (n - t) = rw (whole, zero-add) at (Lists.range-append 0 t (n - t)) in
       let low : List ℕ = filter asks (range 0 t) in
-      let all : filter asks (range 0 n) ≡ low ++ [] = ap (filter asks) parts ∙ Lists.filter-append asks (range 0 t) (range t (n - t)) ∙ ap (_++_ low) e in
+      let all : filter asks (range 0 n) ≡ low ++ [] = ap (filter asks) (Lists.range-split n t (omega arith)) ∙ Lists.filter-append asks (range 0 t) (range t (n - t)) ∙ ap (_++_ low) e in
       let ordered : asked-in-order ≡ low = in-two-runs ∙ ap (λ (ps : List ℕ). ps ++ low) e in
       ap first (all ∙ append-nil low ∙ sym ordered)
 
