@@ -1,0 +1,4 @@
+pub mod Texts
+pub mod Zeros
+pub mod Outcomes
+pub mod Runs
