@@ -3,7 +3,7 @@
 use Prim.Native.Nat.{ℕ, _+_, _≤_}
 use mathlib.Core.Path.{_≡_}
 use mathlib.Core.List.{List}
-use lib.ListN.{length}
+use lib.ListN.{length, take}
 use lib.Seq.{sets}
 pub mod Laws
 
@@ -16,3 +16,7 @@ pub record Put (former : List ℕ) (at : ℕ) (text : List ℕ) (buffer : List �
   pub holds : buffer ≡ sets former at text
   pub ends : end ≡ at + length text
   pub fits : at + length text ≤ length former
+
+-- n counts bytes at the start of a buffer. The second part follows from the first; with both a caller can lend these bytes
+abbrev pub Counts : ℕ → List ℕ → Type 0
+Counts n buffer = (n ≤ length buffer) × (n ≡ length (take n buffer))

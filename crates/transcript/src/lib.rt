@@ -13,7 +13,7 @@ ghost use lib.ListN.{length, drop, getD};
 ghost use Rattle.transcript.specs.Characters as Characters;
 ghost use Rattle.transcript.specs.FirstLine.{firstLine};
 ghost use Rattle.transcript.specs.Lines as Lines;
-ghost use Rattle.transcript.specs.Output.{Put};
+ghost use Rattle.transcript.specs.Output.{Counts, Put};
 ghost use Rattle.transcript.specs.Text as Text;
 
 // The longest input that is served. A longer one is refused by 12.
@@ -28,6 +28,7 @@ pub const LIMIT: usize = 1376274;
 pub fn run(input: &[u8], output: &mut [u8; LIMIT]) -> usize
     ensures { λ r. ⌜ r ≡ length (Text.text (now (input .entry))) ⌝ }
     ensures { λ _. ⌜ now (output .exit) ≡ Text.text (now (input .entry)) ++ drop (length (Text.text (now (input .entry)))) (now (output .entry)) ⌝ }
+    ensures { λ r. ⌜ Counts r (now (output .exit)) ⌝ }
 {
     let at = output::put_all(b"line granted next\n", output, 0);
     if input.len() > MAX_INPUT {

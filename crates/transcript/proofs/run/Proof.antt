@@ -1,6 +1,6 @@
 -- `transcript::run` meets its contract.
 -- Assumes nothing.
-use Prim.Native.Nat.{ℕ, _+_}
+use Prim.Native.Nat.{ℕ, _+_, _≤_}
 use mathlib.Core.Path.{_≡_, sym, ap, _∙_}
 use mathlib.Core.List.{List, _++_}
 use native.Mathlib.Omega.{arith}
@@ -8,7 +8,7 @@ use lib.ListN.{length, drop}
 use lib.Seq.{length-take-le, sets-eq}
 use borrow.Author.Needs.{needs}
 use Rattle.transcript.specs.Cycles.Laws.{refusal-short}
-use Rattle.transcript.specs.Output.{Put}
+use Rattle.transcript.specs.Output.{Counts, Put}
 use Rattle.transcript.specs.Output.Laws.{put-then, put-length, same-put}
 use Rattle.transcript.specs.Text.{text}
 use Rattle.transcript.specs.Text.Laws.{follows, text-refused, text-follows}
@@ -17,10 +17,16 @@ use Rattle.transcript.proofs.run.Tie as tie
 
 -- a text that is written at the start of a buffer
 written : {former text buffer : List ℕ} {end : ℕ} → Put former 0 text buffer end
-    → (end ≡ length text) × (buffer ≡ text ++ drop (length text) former)
-written {former} {text} p =
+    → (end ≡ length text) × ((buffer ≡ text ++ drop (length text) former) × Counts end buffer)
+written {former} {text} {buffer} {end} p =
     let zero : 0 + length text ≡ length text = omega arith in
-    (p .ends ∙ zero, p .holds ∙ sets-eq text former 0 (p .fits) ∙ ap (λ (k : ℕ). text ++ drop k former) zero)
+    let within : end ≤ length buffer = omega (arith, p .ends, p .fits, put-length p) in (
+      p .ends ∙ zero,
+      (
+        p .holds ∙ sets-eq text former 0 (p .fits) ∙ ap (λ (k : ℕ). text ++ drop k former) zero,
+        (within, sym (length-take-le end buffer within)),
+      ),
+    )
 
 slice-aggregate-put-all : tie.Need-slice-aggregate-put-all
 slice-aggregate-put-all c = search needs
