@@ -15,8 +15,3 @@ told e p q = (p ∙ ap (λ (o : Outcome). o .answer) (sym e), q ∙ ap (λ (o : 
 pub told-of : (leaves : List ℕ → Outcome) {g z : List ℕ} {o : Outcome} {x : Answer} {written : List ℕ} → g ≡ z → o ≡ leaves z
     → x ≡ (leaves g) .answer → written ≡ (leaves g) .written → (x ≡ o .answer) × (written ≡ o .written)
 told-of leaves e f p q = told (f ∙ sym (ap leaves e)) p q
-
--- put together again
-pub whole : {o : Outcome} {x : Answer} {written : List ℕ} → x ≡ o .answer → written ≡ o .written
-    → o ≡ record { answer = x; written = written }
-whole e f = rw (e, f)

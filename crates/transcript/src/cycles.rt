@@ -83,29 +83,18 @@ fn print_line(engine: Engine, run: Progress, line: &[u8], out: &mut [u8]) -> Pro
     ensures { λ r. ⌜ r .number ≡ run .number + 1 ⌝ }
 {
     let mut grants = [0u8; MAX_WIDTH];
-    let state = run.state;
-    let width = state.width;
-    let answer = cycle(engine, state, line, &mut grants[..width]);
-    let at = print(run.number, answer, &grants[..width], out, run.at);
-    let next = answer.state;
-    Progress {
-        state: next,
-        number: run.number + 1,
-        at,
-    }
-}
-
-// What a cycle prints, with its answer and its grants.
-fn print(number: usize, answer: Answer, grants: &[u8], out: &mut [u8], at: usize) -> usize
-    requires { ⌜ Room (now out) at (Cycles.printed number (record { answer = answer; written = now grants })) ⌝ }
-    ensures { λ r. ⌜ Put (now (out .entry)) at (Cycles.printed number (record { answer = answer; written = now (grants .entry) })) (now (out .exit)) r ⌝ }
-{
-    if answer.number != refusal::SERVED {
-        return output::put_refusal(number, answer.number, answer.place, out, at);
-    }
+    let former = run.state;
+    let width = former.width;
+    let answer = cycle(engine, former, line, &mut grants[..width]);
     let state = answer.state;
+    let number = run.number + 1;
+    if answer.number != refusal::SERVED {
+        let at = output::put_refusal(run.number, answer.number, answer.place, out, run.at);
+        return Progress { state, number, at };
+    }
     let next = state.first_station();
-    output::put_granted(number, grants, next, out, at)
+    let at = output::put_granted(run.number, &grants[..width], next, out, run.at);
+    Progress { state, number, at }
 }
 
 // The cycle of one line, with a grant buffer of zeros.
