@@ -11,6 +11,7 @@ use Rattle.transcript.specs.Lines.{lines}
 use Rattle.transcript.specs.FirstLine.{firstLine}
 use Rattle.transcript.specs.Cycles.{opening, refusal, run}
 pub mod Laws
+pub mod Known
 
 -- the fixed first line, "line granted next", with its line feed
 abbrev pub heading : List ℕ

@@ -1,0 +1,65 @@
+-- 01's words on the program, and what was decided where it leaves a point open, on small cases. They are computed, in the bytes of
+-- their characters. What a served cycle grants is not computed here, since the round-robin rule is shut; the test program runs
+-- 01's example.
+-- Assumes nothing.
+use Prim.Native.Nat.{ℕ}
+use mathlib.Core.Path.{_≡_, refl}
+use mathlib.Core.List.{List, [], _∷_, _++_}
+use Rattle.arbiter.specs.Questions.{_then_}
+use Rattle.arbiter.specs.Answers.{ifPassed}
+use Rattle.transcript.specs.declared.first_line.Engine.the-variants.{Scan, Tree, Thermometer, TokenBus}
+use Rattle.transcript.specs.declared.first_line.FirstLine.the-variants.{Opens, Unreadable}
+use Rattle.transcript.specs.Characters.{digits, decimal}
+use Rattle.transcript.specs.Lines.{place, split, unended, lines}
+use Rattle.transcript.specs.FirstLine.{wellFormed, number, firstLine}
+use Rattle.transcript.specs.Cycles.{cycle, refusal, granted, printed, run}
+use Rattle.transcript.specs.Text.{heading, opened, text}
+
+-- a final line feed ends the last line, and a line feed after it makes an empty one
+known-lines : (lines (97 ∷ 98 ∷ []) ≡ (97 ∷ 98 ∷ []) ∷ []) × (lines (97 ∷ 98 ∷ 10 ∷ []) ≡ (97 ∷ 98 ∷ []) ∷ []) × (lines (97 ∷ 98 ∷ 10 ∷ 10 ∷ []) ≡ (97 ∷ 98 ∷ []) ∷ [] ∷ [])
+unfolding split unended
+known-lines = (refl, refl, refl)
+
+-- the four letters; 0 and 999 are numbers
+known-first-lines :
+    (firstLine (83 ∷ 32 ∷ 48 ∷ 32 ∷ 57 ∷ 57 ∷ 57 ∷ []) ≡ Opens Scan 0 999)
+    × (firstLine (84 ∷ 32 ∷ 56 ∷ 32 ∷ 49 ∷ []) ≡ Opens Tree 8 1)
+    × (firstLine (80 ∷ 32 ∷ 52 ∷ 32 ∷ 50 ∷ []) ≡ Opens Thermometer 4 2)
+    × (firstLine (66 ∷ 32 ∷ 50 ∷ 53 ∷ 54 ∷ 32 ∷ 49 ∷ []) ≡ Opens TokenBus 256 1)
+unfolding firstLine number wellFormed place
+known-first-lines = (refl, refl, refl, refl)
+
+-- a leading zero, a fourth digit, no number, a letter that is none, two spaces, a space or a carriage return at the end
+known-unreadable :
+    (firstLine (83 ∷ 32 ∷ 48 ∷ 52 ∷ 32 ∷ 49 ∷ []) ≡ Unreadable)
+    × (firstLine (83 ∷ 32 ∷ 49 ∷ 48 ∷ 48 ∷ 48 ∷ 32 ∷ 49 ∷ []) ≡ Unreadable)
+    × (firstLine (83 ∷ 32 ∷ 52 ∷ 32 ∷ []) ≡ Unreadable)
+    × (firstLine (65 ∷ 32 ∷ 52 ∷ 32 ∷ 49 ∷ []) ≡ Unreadable)
+    × (firstLine (83 ∷ 32 ∷ 32 ∷ 52 ∷ 32 ∷ 49 ∷ []) ≡ Unreadable)
+    × (firstLine (83 ∷ 32 ∷ 52 ∷ 32 ∷ 49 ∷ 32 ∷ []) ≡ Unreadable)
+    × (firstLine (83 ∷ 32 ∷ 52 ∷ 32 ∷ 49 ∷ 13 ∷ []) ≡ Unreadable)
+unfolding firstLine number wellFormed place
+known-unreadable = (refl, refl, refl, refl, refl, refl, refl)
+
+-- the lines of the output
+known-output : (refusal 5 8 2 ≡ (53 ∷ 32 ∷ 114 ∷ 101 ∷ 102 ∷ 117 ∷ 115 ∷ 101 ∷ 100 ∷ 32 ∷ 56 ∷ 32 ∷ 50 ∷ 10 ∷ [])) × (granted 10 (1 ∷ 0 ∷ []) 255 ≡ (49 ∷ 48 ∷ 32 ∷ 49 ∷ 48 ∷ 32 ∷ 50 ∷ 53 ∷ 53 ∷ 10 ∷ []))
+unfolding refusal granted decimal digits
+known-output = (refl, refl)
+
+-- whole texts: no input, a line feed alone, and openings that are refused by 1, 2 and 3
+known-refused :
+    (text [] ≡ heading ++ (48 ∷ 32 ∷ 114 ∷ 101 ∷ 102 ∷ 117 ∷ 115 ∷ 101 ∷ 100 ∷ 32 ∷ 49 ∷ 49 ∷ 32 ∷ 48 ∷ 10 ∷ []))
+    × (text (10 ∷ []) ≡ heading ++ (48 ∷ 32 ∷ 114 ∷ 101 ∷ 102 ∷ 117 ∷ 115 ∷ 101 ∷ 100 ∷ 32 ∷ 49 ∷ 49 ∷ 32 ∷ 48 ∷ 10 ∷ []))
+    × (text (83 ∷ 32 ∷ 57 ∷ 57 ∷ 57 ∷ 32 ∷ 49 ∷ []) ≡ heading ++ (48 ∷ 32 ∷ 114 ∷ 101 ∷ 102 ∷ 117 ∷ 115 ∷ 101 ∷ 100 ∷ 32 ∷ 49 ∷ 32 ∷ 48 ∷ 10 ∷ []))
+    × (text (84 ∷ 32 ∷ 54 ∷ 32 ∷ 49 ∷ []) ≡ heading ++ (48 ∷ 32 ∷ 114 ∷ 101 ∷ 102 ∷ 117 ∷ 115 ∷ 101 ∷ 100 ∷ 32 ∷ 50 ∷ 32 ∷ 48 ∷ 10 ∷ []))
+    × (text (83 ∷ 32 ∷ 52 ∷ 32 ∷ 49 ∷ 48 ∷ 48 ∷ []) ≡ heading ++ (48 ∷ 32 ∷ 114 ∷ 101 ∷ 102 ∷ 117 ∷ 115 ∷ 101 ∷ 100 ∷ 32 ∷ 51 ∷ 32 ∷ 48 ∷ 10 ∷ []))
+unfolding text opened run cycle printed refusal decimal digits firstLine number wellFormed place split unended _then_ ifPassed
+known-refused = (refl, refl, refl, refl, refl)
+
+-- a first line alone, and cycle lines of the wrong length
+known-lengths :
+    (text (83 ∷ 32 ∷ 52 ∷ 32 ∷ 49 ∷ 10 ∷ []) ≡ heading ++ [])
+    × (text (83 ∷ 32 ∷ 52 ∷ 32 ∷ 49 ∷ 10 ∷ 49 ∷ 49 ∷ 49 ∷ 10 ∷ 10 ∷ 49 ∷ 49 ∷ 49 ∷ 49 ∷ 49 ∷ []) ≡ heading ++ (49 ∷ 32 ∷ 114 ∷ 101 ∷ 102 ∷ 117 ∷ 115 ∷ 101 ∷ 100 ∷ 32 ∷ 53 ∷ 32 ∷ 48 ∷ 10 ∷ 50 ∷ 32 ∷ 114 ∷ 101 ∷ 102 ∷ 117 ∷ 115 ∷ 101 ∷ 100 ∷ 32 ∷ 53 ∷ 32 ∷ 48 ∷ 10 ∷ 51 ∷ 32 ∷ 114 ∷ 101 ∷ 102 ∷ 117 ∷ 115 ∷ 101 ∷ 100 ∷ 32 ∷ 53 ∷ 32 ∷ 48 ∷ 10 ∷ []))
+    × (text (66 ∷ 32 ∷ 49 ∷ 32 ∷ 49 ∷ 10 ∷ 49 ∷ []) ≡ heading ++ (49 ∷ 32 ∷ 114 ∷ 101 ∷ 102 ∷ 117 ∷ 115 ∷ 101 ∷ 100 ∷ 32 ∷ 53 ∷ 32 ∷ 48 ∷ 10 ∷ []))
+unfolding text opened run cycle printed refusal decimal digits firstLine number wellFormed place split unended _then_ ifPassed
+known-lengths = (refl, refl, refl)
