@@ -1,0 +1,3 @@
+pub mod Count
+pub mod Turns
+pub mod Codes

@@ -1,0 +1,27 @@
+-- `read_one_hot_on` is safe: the part is no longer than its buffer.
+-- Assumes nothing.
+use native.Mathlib.Omega.{arith}
+use lib.ListN.{length-take}
+use borrow.Author.Needs.{needs}
+use Rattle.vectors.proofs.engine.read_one_hot_on.Statement.{statement}
+use Rattle.vectors.proofs.engine.read_one_hot_on.Tie as tie
+
+unrun-requires : tie.Need-unrun-requires
+unrun-requires c κs = search needs
+
+returns : tie.Need-returns
+returns c = search needs
+
+slice-aggregate-read-one-hot : tie.Need-slice-aggregate-read-one-hot
+slice-aggregate-read-one-hot c = simp length-take (omega arith)
+
+read-one-hot-requires : tie.Need-read-one-hot-requires
+read-one-hot-requires c κs = search needs
+
+returns-2 : tie.Need-returns-2
+returns-2 c = search needs
+
+pub read-one-hot-on-spec : {M : Type 1} → statement M
+read-one-hot-on-spec =
+    tie.close
+    (tie.spec unrun-requires returns slice-aggregate-read-one-hot read-one-hot-requires returns-2)

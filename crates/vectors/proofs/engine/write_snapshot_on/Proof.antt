@@ -1,0 +1,40 @@
+-- `write_snapshot_on` is safe: the part is no longer than its buffer.
+-- Assumes nothing.
+use native.Mathlib.Omega.{arith}
+use lib.ListN.{length-take}
+use borrow.Author.Needs.{needs}
+use Rattle.vectors.proofs.engine.write_snapshot_on.Statement.{statement}
+use Rattle.vectors.proofs.engine.write_snapshot_on.Tie as tie
+
+unrun-requires : tie.Need-unrun-requires
+unrun-requires c κs = search needs
+
+returns : tie.Need-returns
+returns c = search needs
+
+slice-relend-prefix-write-snapshot : tie.Need-slice-relend-prefix-write-snapshot
+slice-relend-prefix-write-snapshot c = search needs
+
+slice-aggregate-write-snapshot : tie.Need-slice-aggregate-write-snapshot
+slice-aggregate-write-snapshot c = simp length-take (omega arith)
+
+write-snapshot-requires : tie.Need-write-snapshot-requires
+write-snapshot-requires c κs = search needs
+
+same-length : tie.Need-same-length
+same-length c = search needs
+
+returns-2 : tie.Need-returns-2
+returns-2 c = search needs
+
+pub write-snapshot-on-spec : {M : Type 1} → statement M
+write-snapshot-on-spec =
+    tie.close
+    (tie.spec
+    unrun-requires
+    returns
+    slice-relend-prefix-write-snapshot
+    slice-aggregate-write-snapshot
+    write-snapshot-requires
+    same-length
+    returns-2)
