@@ -30,8 +30,10 @@ opened (Opens e n m) ls =
     let a = opening e n m in
     cond (eqb (a .number) 0) (run e (a .state) 1 ls) (refusal 0 (a .number) (a .place))
 
+-- what follows the heading, given the lines of the input
+abbrev pub answered : List (List ℕ) → List ℕ
+answered ls = opened (firstLine (getD ls 0 [])) (drop 1 ls)
+
 -- everything: "always with the fixed first line"; 12 is asked before 11
 unfoldable pub text : List ℕ → List ℕ
-text input =
-    heading
-    ++ cond (leb (length input) maxInput) (opened (firstLine (getD (lines input) 0 [])) (drop 1 (lines input))) (refusal 0 12 0)
+text input = heading ++ cond (leb (length input) maxInput) (answered (lines input)) (refusal 0 12 0)

@@ -6,12 +6,11 @@ mod output;
 
 use arbiter::refusal;
 use first_line::FirstLine;
-ghost use mathlib.Core.List.{[], _++_};
+ghost use mathlib.Core.List.{_++_};
 ghost use mathlib.Core.Path.{_≡_};
 ghost use Prim.Native.Nat.{_+_, _*_, _≤_};
-ghost use lib.ListN.{length, drop, getD};
+ghost use lib.ListN.{length, drop};
 ghost use Rattle.transcript.specs.Characters as Characters;
-ghost use Rattle.transcript.specs.FirstLine.{firstLine};
 ghost use Rattle.transcript.specs.Lines as Lines;
 ghost use Rattle.transcript.specs.Output.{Counts, Put};
 ghost use Rattle.transcript.specs.Text as Text;
@@ -42,7 +41,7 @@ pub fn run(input: &[u8], output: &mut [u8; LIMIT]) -> usize
 fn answer(body: &[u8], out: &mut [u8], at: usize) -> usize
     requires { ⌜ length (now body) ≤ Text.maxInput ⌝ }
     requires { ⌜ at + 21 * Text.maxInput ≤ length (now out) ⌝ }
-    ensures { λ r. ⌜ Put (now (out .entry)) at (Text.opened (firstLine (getD (Lines.split Characters.lineFeed (now (body .entry))) 0 [])) (drop 1 (Lines.split Characters.lineFeed (now (body .entry))))) (now (out .exit)) r ⌝ }
+    ensures { λ r. ⌜ Put (now (out .entry)) at (Text.answered (Lines.split Characters.lineFeed (now (body .entry)))) (now (out .exit)) r ⌝ }
 {
     let end = lines::line_end(body, 0);
     let first = first_line::read(&body[..end]);

@@ -2,9 +2,8 @@
 -- their characters. What a served cycle grants is not computed here, since the round-robin rule is shut; the test program runs
 -- 01's example.
 -- Assumes nothing.
-use Prim.Native.Nat.{ℕ}
 use mathlib.Core.Path.{_≡_, refl}
-use mathlib.Core.List.{List, [], _∷_, _++_}
+use mathlib.Core.List.{[], _∷_, _++_}
 use Rattle.arbiter.specs.Questions.{_then_}
 use Rattle.arbiter.specs.Answers.{ifPassed}
 use Rattle.transcript.specs.declared.first_line.Engine.the-variants.{Scan, Tree, Thermometer, TokenBus}

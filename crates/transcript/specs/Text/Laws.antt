@@ -2,8 +2,8 @@
 -- Assumes nothing.
 use Prim.Native.Nat.{ℕ, _+_, _≤_, _<_}
 use mathlib.Core.Path.{_≡_, _∙_}
-use mathlib.Core.List.{List, [], _++_}
-use lib.ListN.{length, take, drop, getD}
+use mathlib.Core.List.{List, _++_}
+use lib.ListN.{length, take}
 use borrow.Author.Tests.{eq-eqb, ne-eqb, le-leb, lt-leb}
 use Rattle.arbiter.specs.declared.Answer.{Answer}
 use Rattle.transcript.specs.declared.first_line.Engine.{Engine}
@@ -14,11 +14,11 @@ use Rattle.transcript.specs.Lines.{place, split, unended, linesFrom}
 use Rattle.transcript.specs.Lines.Laws.{lines-first}
 use Rattle.transcript.specs.FirstLine.{firstLine}
 use Rattle.transcript.specs.Cycles.{opening, refusal, run}
-use Rattle.transcript.specs.Text.{heading, maxInput, opened, text}
+use Rattle.transcript.specs.Text.{heading, maxInput, opened, answered, text}
 
 -- what follows the heading, for an input without its final line feed
 abbrev pub follows : List ℕ → List ℕ
-follows body = opened (firstLine (getD (split lineFeed body) 0 [])) (drop 1 (split lineFeed body))
+follows body = answered (split lineFeed body)
 
 -- the first line ends at `end`, and says `first`
 module _ (body : List ℕ) (end : ℕ) (first : FirstLine) (is : end ≡ place lineFeed body) (read : first ≡ firstLine (take end body)) where

@@ -4,7 +4,7 @@ use native.Mathlib.Omega.{arith}
 use Prim.Native.Nat.{_+_}
 use mathlib.Core.Path.{_≡_, sym, ap, _∙_}
 use mathlib.Core.Bool.{_&&_}
-use Rattle.reference.specs.Count.{tally, lesser}
+use Rattle.reference.specs.Count.{lesser}
 use Rattle.reference.specs.Count.Laws.{both, tally-le}
 use Rattle.reference.specs.Codes.{reaches, code, counted, isCode, sum}
 use Rattle.reference.specs.Codes.Laws.{code-picks}
