@@ -138,7 +138,7 @@ fn tree_cycle(s: State, requests: &[u8], grants: &mut [u8]) -> Answer
     ensures { λ r. ⌜ r ≡ (Tree·Calls.cycle s (now (requests .entry)) (now (grants .entry)) (replicate (2 * s .width) 0)) .answer ⌝ }
     ensures { λ _. ⌜ now (grants .exit) ≡ (Tree·Calls.cycle s (now (requests .entry)) (now (grants .entry)) (replicate (2 * s .width) 0)) .grants ⌝ }
 {
-    let mut nodes = [0u8; 512];
+    let mut nodes = [0; 512];
     let end = 2 * s.width;
     Tree(s).cycle(requests, grants, &mut nodes[..end])
 }
