@@ -4,35 +4,27 @@
 use Prim.Native.Nat.{ℕ}
 use mathlib.Core.Bool.{Bool}
 use mathlib.Core.List.{List}
-use lib.Dec.{eqb}
-use lib.ListN.{length, getD}
+use lib.ListN.{length}
 use Rattle.rules.specs.declared.Head.{Head}
-use Rattle.rules.specs.RoundRobin.{granted, grants, after, next}
+use Rattle.rules.specs.RoundRobin.{grants}
 use Rattle.arbiter.specs.declared.Answer.{Answer}
 use Rattle.arbiter.specs.declared.State.{State}
 use Rattle.arbiter.specs.declared.question.Verdict.{Verdict}
 use Rattle.arbiter.specs.Questions as Questions
-use Rattle.arbiter.specs.Questions.{_then_}
-use Rattle.arbiter.specs.Answers.{Outcome, moved, served, opened, writes}
-pub mod Laws
+use Rattle.arbiter.specs.Decisions.{requested, decision}
+use Rattle.arbiter.specs.Answers.{Outcome, decided, opened, writes}
 
 -- "Opening takes N and m (and a head, if one is given)", and asks 1, 3 and 4
 abbrev pub opening : ℕ → ℕ → Head → Answer
-opening n m h = let s : State = record { width = n; picks = m; head = h } in opened (Questions.state s) s
+opening n m h = opened (Questions.state n m h) n m h
 
 -- who asks: a station "asks in a cycle if the call is given 1 for its wire"
 abbrev pub asking : State → List ℕ → ℕ → Bool
-asking s requests w = eqb (getD requests w 0) 1
+asking s requests = requested requests
 
 -- the answer of a served cycle: how many are granted, and the state with the next head
 abbrev pub answer : State → List ℕ → Answer
-answer s requests =
-    let asks = asking s requests in
-    served (length (granted (s .width) (s .picks) (s .head) asks)) (moved s (next (s .width) (s .picks) (s .head) asks))
-
--- the same told by whom it grants
-abbrev pub answering : State → List ℕ → Answer
-answering s gs = served (length gs) (moved s (after (s .width) (s .head) gs))
+answer s requests = decided s (decision (s .width) (s .picks) (s .head) (asking s requests))
 
 -- the grant buffer of a served cycle
 abbrev pub granting : State → List ℕ → List ℕ
@@ -40,11 +32,7 @@ granting s requests = grants (s .width) (s .picks) (s .head) (asking s requests)
 
 -- the questions of a cycle with these requests and a grant buffer of this length: 1, 3, 4, 5, 6 and 8
 abbrev pub questions : State → List ℕ → ℕ → Verdict
-questions s requests size =
-    Questions.state s
-    then Questions.readLength (s .width) (length requests)
-    then Questions.writeLength (s .width) size
-    then Questions.bits 0 requests
+questions s requests size = Questions.cycle (s .width) (s .picks) (s .head) requests size
 
 -- a cycle, with the grant buffer's former bytes
 abbrev pub cycle : State → List ℕ → List ℕ → Outcome

@@ -1,7 +1,5 @@
 pub mod Places
 pub mod Questions
+pub mod Decisions
 pub mod Answers
-pub mod OneHot
-pub mod Snapshot
 pub mod Cycle
-pub mod RoundTrips

@@ -4,12 +4,11 @@ use Prim.Native.Nat.{ℕ, _*_, _^_}
 use mathlib.Core.Bool.{Bool, true, false, cond, _&&_}
 use mathlib.Core.List.{List, [], _∷_, map}
 use lib.Dec.{eqb, ltb, leb}
-use lib.ListN.{drop}
+use lib.ListN.{length, drop}
 use Rattle.rules.specs.declared.Head.{Head}
 use Rattle.rules.specs.declared.Head.the-variants.{None, At}
 use Rattle.rules.specs.Lists.{range, member}
 use Rattle.rules.specs.Thermometer.{isCode}
-use Rattle.arbiter.specs.declared.State.{State}
 use Rattle.arbiter.specs.declared.question.Verdict.{Verdict}
 use Rattle.arbiter.specs.Places.{places, ones}
 pub mod Laws
@@ -96,10 +95,14 @@ oneHot image = refuseAtFirst 10 (drop 1 (ones 0 image))
 abbrev pub codes : ℕ → ℕ → ℕ → Verdict
 codes m a b = refuseUnless (isCode m a && isCode m b) 13 0
 
--- 1, 3 and 4 of a state
-abbrev pub state : State → Verdict
-state s = width (s .width) then picks (s .width) (s .picks) then head (s .width) (s .head)
+-- 1, 3 and 4
+abbrev pub state : ℕ → ℕ → Head → Verdict
+state n m h = width n then picks n m then head n h
 
 -- those of a call that writes what a state holds to a buffer: 1, 3, 4 and 6
-abbrev pub write : State → ℕ → ℕ → Verdict
-write s stated length = state s then writeLength stated length
+abbrev pub write : ℕ → ℕ → Head → ℕ → ℕ → Verdict
+write n m h stated length = state n m h then writeLength stated length
+
+-- those of a cycle with these requests and a grant buffer of this length: 1, 3, 4, 5, 6 and 8
+abbrev pub cycle : ℕ → ℕ → Head → List ℕ → ℕ → Verdict
+cycle n m h requests size = state n m h then readLength n (length requests) then writeLength n size then bits 0 requests

@@ -1,8 +1,6 @@
-// The state of an arbiter, the answer of a call, the questions that calls ask, and two ways of keeping the head.
-mod one_hot;
+// The state of an arbiter, the answer of a call, the questions that calls ask, and what a cycle decides.
 pub mod question;
 pub mod refusal;
-mod snapshot;
 
 use question::Verdict;
 use rules::Head;
@@ -13,6 +11,7 @@ ghost use lib.ListN.{length, replicate};
 ghost use Rattle.rules.specs.RoundRobin.{start};
 ghost use Rattle.arbiter.specs.Answers as Answers;
 ghost use Rattle.arbiter.specs.Cycle as Cycle;
+ghost use Rattle.arbiter.specs.Decisions as Decisions;
 ghost use Rattle.arbiter.specs.Places as Places;
 
 // The most stations.
@@ -20,9 +19,6 @@ pub const MAX_WIDTH: usize = 256;
 
 // The most picks in one cycle.
 pub const MAX_PICKS: usize = 8;
-
-// How long a snapshot is.
-pub const SNAPSHOT_LENGTH: usize = 4;
 
 // 01's state: the number of stations, the most grants in one cycle, and the head.
 pub struct State {
@@ -40,35 +36,27 @@ pub struct Answer {
     pub state: State,
 }
 
-impl State {
-    // The state that a plain scan or a thermometer arbiter starts from. Asks 1, 3 and 4.
-    pub fn open(width: usize, picks: usize, head: Head) -> Answer
-        ensures { λ r. ⌜ r ≡ Cycle.opening width picks head ⌝ }
-    {
-        let s = State { width, picks, head };
-        s.opened(question::state(s))
-    }
+// What a cycle decides, apart from any state: how many are granted, and the next head.
+pub struct Decision {
+    pub count: usize,
+    pub next: Head,
+}
 
-    // The state with another head.
-    pub fn moved(self, head: Head) -> State
-        ensures { λ r. ⌜ r ≡ Answers.moved self head ⌝ }
+impl State {
+    // The answer of a served call that grants `count` and leaves this state with this head.
+    pub fn served(self, count: usize, head: Head) -> Answer
+        ensures { λ r. ⌜ r ≡ Answers.served count (Answers.moved self head) ⌝ }
     {
-        State {
+        let state = State {
             width: self.width,
             picks: self.picks,
             head,
-        }
-    }
-
-    // The answer of a served call that grants `count` and returns this state.
-    pub fn served(self, count: usize) -> Answer
-        ensures { λ r. ⌜ r ≡ Answers.served count self ⌝ }
-    {
+        };
         Answer {
             number: refusal::SERVED,
             place: 0,
             count,
-            state: self,
+            state,
         }
     }
 
@@ -83,60 +71,68 @@ impl State {
             state: self,
         }
     }
+}
 
-    // The answer of a call that makes this state: served it returns the state, refused it returns width 0, no picks and no head.
-    pub fn opened(self, verdict: Verdict) -> Answer
-        ensures { λ r. ⌜ r ≡ Answers.opened verdict self ⌝ }
+impl Answer {
+    // The answer of a call that makes a state of these: served it returns the state, refused it returns width 0, no picks and no
+    // head.
+    pub fn opened(verdict: Verdict, width: usize, picks: usize, head: Head) -> Answer
+        ensures { λ r. ⌜ r ≡ Answers.opened verdict width picks head ⌝ }
     {
         if verdict.number == refusal::SERVED {
-            return self.served(0);
+            return State { width, picks, head }.served(0, head);
         }
-        State::nothing().refused(verdict)
-    }
-
-    // The answer of a served cycle that grants no one: a head stays, and no head becomes the last station.
-    pub fn idle(self) -> Answer
-        ensures { λ r. ⌜ r ≡ Cycle.answering self [] ⌝ }
-    {
-        let last = self.last_station();
-        let head = self.head;
-        match head {
-            Head::None => self.moved(Head::At(last)).served(0),
-            Head::At(_) => self.served(0),
-        }
-    }
-
-    // The station that comes first in the order: the head, or 0 where there is none.
-    pub fn first_station(self) -> usize
-        ensures { λ r. ⌜ r ≡ start (self .head) ⌝ }
-    {
-        let head = self.head;
-        match head {
-            Head::None => 0,
-            Head::At(h) => h,
-        }
-    }
-
-    // The station with the highest number, or 0 where there is no station.
-    fn last_station(self) -> usize
-        ensures { λ r. ⌜ r ≡ self .width - 1 ⌝ }
-    {
-        if self.width == 0 {
-            return 0;
-        }
-        self.width - 1
-    }
-
-    // What a call that was to make a state returns where it is refused.
-    fn nothing() -> State
-        ensures { λ r. ⌜ r ≡ Answers.nothing ⌝ }
-    {
         State {
             width: 0,
             picks: 0,
             head: Head::None,
-        }
+        }.refused(verdict)
     }
+
+    // The opening of a plain scan or a thermometer arbiter. Asks 1, 3 and 4.
+    pub fn open(width: usize, picks: usize, head: Head) -> Answer
+        ensures { λ r. ⌜ r ≡ Cycle.opening width picks head ⌝ }
+    {
+        let verdict = question::state(width, picks, head);
+        Answer::opened(verdict, width, picks, head)
+    }
+}
+
+// What a cycle that grants no one decides: a head stays, and no head becomes the last station, or 0 where there is no station.
+pub fn idle(width: usize, head: Head) -> Decision
+    ensures { λ r. ⌜ r ≡ Decisions.deciding width head [] ⌝ }
+{
+    let last = last_station(width);
+    match head {
+        Head::None => Decision {
+            count: 0,
+            next: Head::At(last),
+        },
+        Head::At(_) => Decision {
+            count: 0,
+            next: head,
+        },
+    }
+}
+
+// The station that comes first in the order: the head, or 0 where there is none.
+pub fn first_station(head: Head) -> usize
+    ensures { λ r. ⌜ r ≡ start head ⌝ }
+{
+    match head {
+        Head::None => 0,
+        Head::At(h) => h,
+    }
+}
+
+// The station with the highest number, or 0 where there is no station.
+fn last_station(width: usize) -> usize
+    ensures { λ r. ⌜ r ≡ width - 1 ⌝ }
+{
+    if width == 0 {
+        return 0;
+    }
+    width - 1
 }
 
 // Sets every byte to 0.

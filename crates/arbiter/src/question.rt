@@ -2,12 +2,9 @@
 // decides.
 use crate::MAX_PICKS;
 use crate::MAX_WIDTH;
-use crate::State;
-use crate::first_one;
 use crate::refusal;
 use rules::Head;
 ghost use mathlib.Core.Path.{_≡_};
-ghost use Rattle.arbiter.specs.Cycle as Cycle;
 ghost use Rattle.arbiter.specs.Questions as Questions;
 ghost use Rattle.arbiter.specs.Questions.{_then_};
 
@@ -105,49 +102,33 @@ pub fn bits(from: usize, bytes: &[u8]) -> Verdict
     refuse_unless(true, refusal::NOT_A_BIT, 0)
 }
 
-// Question 10: has a one-hot image at most one 1? The place of a refusal is that of the second.
-pub(crate) fn one_hot(image: &[u8]) -> Verdict
-    ensures { λ r. ⌜ r ≡ Questions.oneHot (now (image .entry)) ⌝ }
+// Questions 1, 3 and 4.
+pub fn state(width: usize, picks: usize, head: Head) -> Verdict
+    ensures { λ r. ⌜ r ≡ Questions.state width picks head ⌝ }
 {
-    let first = first_one(0, image);
-    let Head::At(one) = first else {
-        return refuse_unless(true, refusal::SECOND_ONE, 0);
-    };
-    let second = first_one(one + 1, image);
-    match second {
-        Head::None => refuse_unless(true, refusal::SECOND_ONE, 0),
-        Head::At(another) => refuse_unless(false, refusal::SECOND_ONE, another),
-    }
-}
-
-// Questions 1, 3 and 4 of a state.
-pub fn state(s: State) -> Verdict
-    ensures { λ r. ⌜ r ≡ Questions.state s ⌝ }
-{
-    let h = s.head;
-    let by_width = width(s.width);
-    let by_picks = picks(s.width, s.picks);
-    let by_head = head(s.width, h);
+    let by_width = self::width(width);
+    let by_picks = self::picks(width, picks);
+    let by_head = self::head(width, head);
     by_width.then(by_picks).then(by_head)
 }
 
 // Questions 1, 3, 4 and 6 of a call that writes what a state holds to a buffer.
-pub(crate) fn write(s: State, stated: usize, length: usize) -> Verdict
-    ensures { λ r. ⌜ r ≡ Questions.write s stated length ⌝ }
+pub fn write(width: usize, picks: usize, head: Head, stated: usize, length: usize) -> Verdict
+    ensures { λ r. ⌜ r ≡ Questions.write width picks head stated length ⌝ }
 {
-    let by_state = state(s);
+    let by_state = state(width, picks, head);
     let by_length = write_length(stated, length);
     by_state.then(by_length)
 }
 
 // Questions 1, 3, 4, 5, 6 and 8 of a cycle of the plain scan or the thermometer arbiter, whose grant buffer has `length` bytes.
 // The requests are read last.
-pub fn cycle(s: State, requests: &[u8], length: usize) -> Verdict
-    ensures { λ r. ⌜ r ≡ Cycle.questions s (now (requests .entry)) length ⌝ }
+pub fn cycle(width: usize, picks: usize, head: Head, requests: &[u8], length: usize) -> Verdict
+    ensures { λ r. ⌜ r ≡ Questions.cycle width picks head (now (requests .entry)) length ⌝ }
 {
-    let by_state = state(s);
-    let by_requests = read_length(s.width, requests.len());
-    let by_grants = write_length(s.width, length);
+    let by_state = state(width, picks, head);
+    let by_requests = read_length(width, requests.len());
+    let by_grants = write_length(width, length);
     let unread = by_state.then(by_requests).then(by_grants);
     if unread.number != refusal::SERVED {
         return unread;

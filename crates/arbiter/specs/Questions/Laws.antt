@@ -1,24 +1,22 @@
 -- Laws of the questions: how a call that asks one after another meets its definition, and what it knows once all have passed.
 -- Assumes nothing.
-use Prim.Native.Nat.{ℕ, suc, _+_, _^_, _≤_, _<_}
+use Prim.Native.Nat.{ℕ, suc, _^_, _≤_, _<_}
 use mathlib.Core.Path.{_≡_, refl, sym, ap, _∙_}
 use mathlib.Core.Bool.{Bool, true, false, _&&_}
 use mathlib.Core.List.{List, [], _∷_}
 use native.Mathlib.Omega.{arith}
-use native.Mathlib.Numerals.{add-one}
 use lib.Dec.{eqb, leb, ltb}
-use lib.ListN.{length, getD, drop}
+use lib.ListN.{length, getD}
 use borrow.Author.Tests.{eq-eqb, ne-eqb, eqb-true, eqb-false, leb-true, ltb-true, ltb-false, le-leb, lt-ltb}
 use Rattle.rules.specs.declared.Head.{Head}
 use Rattle.rules.specs.declared.Head.the-variants.{None, At}
 use Rattle.rules.specs.Lists.Laws as Lists
 use Rattle.rules.specs.RoundRobin.{start}
 use Rattle.rules.specs.RoundRobin.Laws as RoundRobin
-use Rattle.arbiter.specs.declared.State.{State}
 use Rattle.arbiter.specs.declared.question.Verdict.{Verdict}
-use Rattle.arbiter.specs.Places.{ones, first}
-use Rattle.arbiter.specs.Places.Laws.{first-none, first-some, found, free-of}
-use Rattle.arbiter.specs.Questions.{refuseUnless, refuseAtFirst, _then_, maxWidth, width, treeWidth, picks, onePick, head, token, writeLength, bits, oneHot, state, write}
+use Rattle.arbiter.specs.Places.{first}
+use Rattle.arbiter.specs.Places.Laws.{first-none, first-some, free-of}
+use Rattle.arbiter.specs.Questions.{refuseUnless, refuseAtFirst, _then_, maxWidth, width, treeWidth, picks, onePick, head, token, readLength, writeLength, bits, state, write, cycle}
 
 -- r is the verdict on a, the first question. If it refuses, it decides
 pub refused : {a r : Verdict} (b : Verdict) → r ≡ a → (r .number ≡ 0 → ⊥) → r ≡ (a then b)
@@ -69,22 +67,14 @@ pub first-served : (k : ℕ) (ps : List ℕ) → (refuseAtFirst (suc k) ps) .num
 first-served k [] z = refl
 first-served k (p ∷ ps) z = absurd (omega arith)
 
--- an image with no 1
-pub one-hot-none : (image : List ℕ) → first (ones 0 image) ≡ None → oneHot image ≡ refuseUnless true 10 0
-one-hot-none image e = ap (λ (ps : List ℕ). refuseAtFirst 10 (drop 1 ps)) (first-none (ones 0 image) e)
-
--- an image whose first 1 is at i: the second is the first after it
-pub one-hot-rest : (image : List ℕ) (i : ℕ) → first (ones 0 image) ≡ At i → oneHot image ≡ refuseAtFirst 10 (ones (i + 1) image)
-one-hot-rest image i e = rw add-one (ap (λ (ps : List ℕ). refuseAtFirst 10 (drop 1 ps)) (found (λ b. eqb b 1) 0 i image e .all))
-
--- what is known of a state once 1, 3 and 4 have passed
-pub record Allowed (s : State) : Type 0 where
-  pub some : 1 ≤ s .width
-  pub most : s .width ≤ maxWidth
-  pub picked : 1 ≤ s .picks
-  pub few : s .picks ≤ 8
-  pub fit : s .picks ≤ s .width
-  pub station : start (s .head) < s .width
+-- what is known once 1, 3 and 4 have passed
+pub record Allowed (n m : ℕ) (h : Head) : Type 0 where
+  pub some : 1 ≤ n
+  pub most : n ≤ maxWidth
+  pub picked : 1 ≤ m
+  pub few : m ≤ 8
+  pub fit : m ≤ n
+  pub station : start h < n
 
 pub width-served : (n : ℕ) → (width n) .number ≡ 0 → (1 ≤ n) × (n ≤ maxWidth)
 width-served n z =
@@ -119,30 +109,54 @@ pub bits-served : (bytes : List ℕ) → (bits 0 bytes) .number ≡ 0 → (i : �
 bits-served bytes z i l =
     let none = free-of {test = ltb 1} {from = 0} {bytes = bytes} (first-served 7 _ z) in ltb-false 1 (getD bytes i 0) (none .at i (omega arith) l)
 
-pub allowed : (s : State) → (state s) .number ≡ 0 → Allowed s
-allowed s z =
-    let two = then-served (width (s .width) then picks (s .width) (s .picks)) (head (s .width) (s .head)) z in
-    let one = then-served (width (s .width)) (picks (s .width) (s .picks)) (two .0) in
-    let w = width-served (s .width) (one .0) in
-    let p = picks-served (s .width) (s .picks) (one .1) in
+pub allowed : (n m : ℕ) (h : Head) → (state n m h) .number ≡ 0 → Allowed n m h
+allowed n m h z =
+    let two = then-served (width n then picks n m) (head n h) z in
+    let one = then-served (width n) (picks n m) (two .0) in
+    let w = width-served n (one .0) in
+    let p = picks-served n m (one .1) in
     record {
       some = w .0;
       most = w .1;
       picked = p .0;
       few = p .1;
       fit = p .2;
-      station = head-served (s .width) (s .head) (w .0) (two .1);
+      station = head-served n h (w .0) (two .1);
     }
 
 -- what is known of a call that writes once 1, 3, 4 and 6 have passed: r is its verdict
-pub record Writable (s : State) (stated length : ℕ) : Type 0 where
-  pub allows : Allowed s
+pub record Writable (n m : ℕ) (h : Head) (stated length : ℕ) : Type 0 where
+  pub allows : Allowed n m h
   pub long : length ≡ stated
 
-pub writable : {r : Verdict} (s : State) (stated length : ℕ) → r ≡ write s stated length → r .number ≡ 0 → Writable s stated length
-writable s stated length e z =
-    let both = then-served (state s) (writeLength stated length) (ap (λ (v : Verdict). v .number) (sym e) ∙ z) in
-    record { allows = allowed s (both .0); long = length-served 5 stated length (both .1) }
+pub writable : {r : Verdict} (n m : ℕ) (h : Head) (stated length : ℕ) → r ≡ write n m h stated length → r .number ≡ 0
+    → Writable n m h stated length
+writable n m h stated length e z =
+    let both = then-served (state n m h) (writeLength stated length) (ap (λ (v : Verdict). v .number) (sym e) ∙ z) in
+    record { allows = allowed n m h (both .0); long = length-served 5 stated length (both .1) }
+
+-- what is known of a cycle once 1, 3, 4, 5, 6 and 8 have passed: r is its verdict
+pub record Ready (n m : ℕ) (h : Head) (requests : List ℕ) (size : ℕ) : Type 0 where
+  pub allows : Allowed n m h
+  pub asked : length requests ≡ n
+  pub room : size ≡ n
+  pub wires : (i : ℕ) → i < n → getD requests i 0 ≤ 1
+
+pub ready : {r : Verdict} (n m : ℕ) (h : Head) (requests : List ℕ) (size : ℕ) → r ≡ cycle n m h requests size → r .number ≡ 0
+    → Ready n m h requests size
+ready n m h requests size e z =
+    let five = state n m h then readLength n (length requests) in
+    let six = five then writeLength n size in
+    let c = then-served six (bits 0 requests) (ap (λ (v : Verdict). v .number) (sym e) ∙ z) in
+    let b = then-served five (writeLength n size) (c .0) in
+    let a = then-served (state n m h) (readLength n (length requests)) (b .0) in
+    let long = length-served 4 n (length requests) (a .1) in
+    record {
+      allows = allowed n m h (a .0);
+      asked = long;
+      room = length-served 5 n size (b .1);
+      wires = λ i l. bits-served requests (c .1) i (omega (arith, long));
+    }
 
 -- questions that pass
 pub width-passes : (n : ℕ) → 1 ≤ n → n ≤ maxWidth → (width n) .number ≡ 0
@@ -155,12 +169,11 @@ pub head-passes : (n : ℕ) (h : Head) → start h < n → (head n h) .number �
 head-passes n None l = refl
 head-passes n (At h) l = let below : h < n = omega (arith, RoundRobin.start-at h) in rw (lt-ltb h n below)
 
-pub allows : (s : State) → Allowed s → (state s) .number ≡ 0
-allows s a =
-    then-passed _ (head (s .width) (s .head))
-    (then-passed (width (s .width)) _ (width-passes (s .width) (a .some) (a .most))
-    (picks-passes (s .width) (s .picks) (a .picked) (a .few) (a .fit)))
-    (head-passes (s .width) (s .head) (a .station))
+pub allows : (n m : ℕ) (h : Head) → Allowed n m h → (state n m h) .number ≡ 0
+allows n m h a =
+    then-passed _ (head n h)
+    (then-passed (width n) _ (width-passes n (a .some) (a .most)) (picks-passes n m (a .picked) (a .few) (a .fit)))
+    (head-passes n h (a .station))
 
-pub writes : (s : State) (stated length : ℕ) → Allowed s → length ≡ stated → (write s stated length) .number ≡ 0
-writes s stated length a e = then-passed (state s) _ (allows s a) (rw (eq-eqb length stated e))
+pub writes : (n m : ℕ) (h : Head) (stated length : ℕ) → Allowed n m h → length ≡ stated → (write n m h stated length) .number ≡ 0
+writes n m h stated length a e = then-passed (state n m h) _ (allows n m h a) (rw (eq-eqb length stated e))

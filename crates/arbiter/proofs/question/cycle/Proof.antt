@@ -28,7 +28,7 @@ then-requires-2 c κs = search needs
 unread : (c : tie.After-then2)
     → let a = c .before .before .before .before .before .before .args in
     c .then2 .result
-    ≡ (Questions.state (a .s) then Questions.readLength (a .s .width) (length (a .requests .now)) then Questions.writeLength (a .s .width) (a .length))
+    ≡ (Questions.state (a .width) (a .picks) (a .head) then Questions.readLength (a .width) (length (a .requests .now)) then Questions.writeLength (a .width) (a .length))
 unread c =
     let w = c .before .before in
     let r = w .before in

@@ -4,8 +4,8 @@ use mathlib.Core.Path.{sym, ap, _∙_}
 use borrow.Author.Needs.{needs}
 use Rattle.rules.specs.RoundRobin.{start}
 use Rattle.rules.specs.RoundRobin.Laws.{start-none, start-at}
-use Rattle.arbiter.proofs.State.first_station.Statement.{statement}
-use Rattle.arbiter.proofs.State.first_station.Tie as tie
+use Rattle.arbiter.proofs.first_station.Statement.{statement}
+use Rattle.arbiter.proofs.first_station.Tie as tie
 
 enum-told : tie.Need-enum-told
 enum-told c = search needs

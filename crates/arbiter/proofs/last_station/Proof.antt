@@ -2,8 +2,8 @@
 -- Assumes nothing.
 use native.Mathlib.Omega.{arith}
 use borrow.Author.Needs.{needs}
-use Rattle.arbiter.proofs.State.last_station.Statement.{statement}
-use Rattle.arbiter.proofs.State.last_station.Tie as tie
+use Rattle.arbiter.proofs.last_station.Statement.{statement}
+use Rattle.arbiter.proofs.last_station.Tie as tie
 
 returns : tie.Need-returns
 returns c = omega arith

@@ -2,11 +2,10 @@
 -- Assumes nothing.
 use mathlib.Core.Path.{ap, _∙_}
 use borrow.Author.Needs.{needs}
-use Rattle.arbiter.specs.declared.State.{State}
 use Rattle.arbiter.specs.declared.question.Verdict.{Verdict}
 use Rattle.arbiter.specs.Answers.{opened}
-use Rattle.arbiter.proofs.State.open.Statement.{statement}
-use Rattle.arbiter.proofs.State.open.Tie as tie
+use Rattle.arbiter.proofs.Answer.open.Statement.{statement}
+use Rattle.arbiter.proofs.Answer.open.Tie as tie
 
 state-requires : tie.Need-state-requires
 state-requires c κs = search needs
@@ -17,8 +16,7 @@ opened-requires c κs = search needs
 returns : tie.Need-returns
 returns c =
     let a = c .before .before .args in
-    let s : State = record { width = a .width; picks = a .picks; head = a .head } in
-    c .opened .ensures ∙ ap (λ (v : Verdict). opened v s) (c .before .state .ensures)
+    c .opened .ensures ∙ ap (λ (v : Verdict). opened v (a .width) (a .picks) (a .head)) (c .before .state .ensures)
 
 pub open-spec : {M : Type 1} → statement M
 open-spec = tie.close (tie.spec state-requires opened-requires returns)

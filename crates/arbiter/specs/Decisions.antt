@@ -1,0 +1,23 @@
+-- What a cycle by the round-robin rule decides, apart from any state: 01, "The turn rule".
+-- Assumes nothing.
+use Prim.Native.Nat.{ℕ}
+use mathlib.Core.Bool.{Bool}
+use mathlib.Core.List.{List}
+use lib.Dec.{eqb}
+use lib.ListN.{length, getD}
+use Rattle.rules.specs.declared.Head.{Head}
+use Rattle.rules.specs.RoundRobin.{granted, after, next}
+use Rattle.arbiter.specs.declared.Decision.{Decision}
+pub mod Laws
+
+-- who asks by a buffer's bytes, "1 for asking and 0 for not": station w's byte is 1
+abbrev pub requested : List ℕ → ℕ → Bool
+requested bytes w = eqb (getD bytes w 0) 1
+
+-- how many are granted, and the next head
+abbrev pub decision : ℕ → ℕ → Head → (ℕ → Bool) → Decision
+decision n m h asks = record { count = length (granted n m h asks); next = next n m h asks }
+
+-- the same told by whom the cycle grants
+abbrev pub deciding : ℕ → Head → List ℕ → Decision
+deciding n h gs = record { count = length gs; next = after n h gs }
