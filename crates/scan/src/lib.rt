@@ -1,17 +1,21 @@
 // The plain scan: it walks the stations in priority order from the head and grants those that ask, until the picks are used up.
 use arbiter::Answer;
+use arbiter::Decision;
 use arbiter::State;
 use arbiter::clear;
+use arbiter::first_station;
+use arbiter::idle;
 use arbiter::question;
 use arbiter::refusal;
 use rules::Head;
 ghost use mathlib.Core.Path.{_≡_};
 ghost use Prim.Native.Nat.{_≤_, _<_};
 ghost use lib.ListN.{length, replicate};
+ghost use Rattle.rules.specs.RoundRobin as RoundRobin;
 ghost use Rattle.rules.specs.RoundRobin.{start};
 ghost use Rattle.rules.specs.Walk.{Ran};
 ghost use Rattle.arbiter.specs.Cycle as Cycle;
-ghost use Rattle.arbiter.specs.Cycle.{asking};
+ghost use Rattle.arbiter.specs.Decisions.{requested, decision};
 
 // A state that the plain scan serves.
 pub struct Scan(pub State);
@@ -27,14 +31,14 @@ impl Scan {
     pub fn open(width: usize, picks: usize) -> Answer
         ensures { λ r. ⌜ r ≡ Cycle.opening width picks Head.None ⌝ }
     {
-        State::open(width, picks, Head::None)
+        Answer::open(width, picks, Head::None)
     }
 
     // Opens with a head. Asks 1, 3 and 4: of 4 stations, head 4 is refused by 4.
     pub fn open_at(width: usize, picks: usize, head: usize) -> Answer
         ensures { λ r. ⌜ r ≡ Cycle.opening width picks (Head.At head) ⌝ }
     {
-        State::open(width, picks, Head::At(head))
+        Answer::open(width, picks, Head::At(head))
     }
 
     // One cycle: writes the grants of these requests, and answers with their count and the next state. Asks 1, 3, 4, 5, 6
@@ -44,39 +48,51 @@ impl Scan {
         ensures { λ _. ⌜ now (grants .exit) ≡ (Cycle.cycle (self .0) (now (requests .entry)) (now (grants .entry))) .written ⌝ }
     {
         let s = self.0;
-        let verdict = question::cycle(s, requests, grants.len());
+        let head = s.head;
+        let verdict = question::cycle(s.width, s.picks, head, requests, grants.len());
         if verdict.number != refusal::SERVED {
             return s.refused(verdict);
         }
         clear(grants);
-        walk_round(s, requests, grants)
+        let decision = walk_round(s.width, s.picks, head, requests, grants);
+        let next = decision.next;
+        s.served(decision.count, next)
     }
 }
 
 // A cycle that no question refuses, with a grant buffer that is all 0. It walks the stations once round: from the head to the
 // last, and then from 0 up to the head. The next head is one past the station granted last.
-fn walk_round(s: State, requests: &[u8], grants: &mut [u8]) -> Answer
-    requires { ⌜ start (s .head) < s .width ⌝ }
-    requires { ⌜ length (now requests) ≡ s .width ⌝ }
-    requires { ⌜ now grants ≡ replicate (s .width) 0 ⌝ }
-    ensures { λ r. ⌜ r ≡ Cycle.answer s (now (requests .entry)) ⌝ }
-    ensures { λ _. ⌜ now (grants .exit) ≡ Cycle.granting s (now (requests .entry)) ⌝ }
+fn walk_round(
+    width: usize,
+    picks: usize,
+    head: Head,
+    requests: &[u8],
+    grants: &mut [u8],
+) -> Decision
+    requires { ⌜ start head < width ⌝ }
+    requires { ⌜ length (now requests) ≡ width ⌝ }
+    requires { ⌜ now grants ≡ replicate width 0 ⌝ }
+    ensures { λ r. ⌜ r ≡ decision width picks head (requested (now (requests .entry))) ⌝ }
+    ensures { λ _. ⌜ now (grants .exit) ≡ RoundRobin.grants width picks head (requested (now (requests .entry))) ⌝ }
 {
-    let first = s.first_station();
+    let first = first_station(head);
     let begun = Walk { count: 0, last: 0 };
-    let half = walk_run(s, requests, grants, first, s.width, begun);
-    let walk = walk_run(s, requests, grants, 0, first, half);
+    let half = walk_run(picks, requests, grants, first, width, begun);
+    let walk = walk_run(picks, requests, grants, 0, first, half);
     if walk.count != 0 {
-        let next = (walk.last + 1) % s.width;
-        return s.moved(Head::At(next)).served(walk.count);
+        let next = (walk.last + 1) % width;
+        return Decision {
+            count: walk.count,
+            next: Head::At(next),
+        };
     }
-    s.idle()
+    idle(width, head)
 }
 
 // Grants those that ask of the stations from `from` up to `to`, in that order, until the picks are used up. `walk` is how far
 // the walk has come before, and the result how far it has come then.
 fn walk_run(
-    s: State,
+    picks: usize,
     requests: &[u8],
     grants: &mut [u8],
     from: usize,
@@ -86,14 +102,14 @@ fn walk_run(
     requires { ⌜ from ≤ to ⌝ }
     requires { ⌜ to ≤ length (now requests) ⌝ }
     requires { ⌜ to ≤ length (now grants) ⌝ }
-    requires { ⌜ walk .count ≤ s .picks ⌝ }
-    ensures { λ r. ⌜ Ran (s .picks) (asking s (now (requests .entry))) from to (walk .count) (walk .last) (now (grants .entry)) (r .count) (r .last) (now (grants .exit)) ⌝ }
+    requires { ⌜ walk .count ≤ picks ⌝ }
+    ensures { λ r. ⌜ Ran picks (requested (now (requests .entry))) from to (walk .count) (walk .last) (now (grants .entry)) (r .count) (r .last) (now (grants .exit)) ⌝ }
 {
     let mut count = walk.count;
     let mut last = walk.last;
     let mut i = from;
     while i < to {
-        if count == s.picks {
+        if count == picks {
             return Walk { count, last };
         }
         if requests[i] == 1 {

@@ -6,9 +6,8 @@ use native.Mathlib.Omega.{arith}
 use lib.ListN.{length, length-replicate}
 use borrow.Author.Needs.{needs}
 use Rattle.rules.specs.Walk.Laws as Walk
-use Rattle.arbiter.specs.Answers.{served}
-use Rattle.arbiter.specs.Cycle.{asking}
-use Rattle.arbiter.specs.Cycle.Laws.{walked-some, walked-none}
+use Rattle.arbiter.specs.Decisions.{requested}
+use Rattle.arbiter.specs.Decisions.Laws.{walked-some, walked-none}
 use Rattle.scan.proofs.walk_round.Statement.{statement}
 use Rattle.scan.proofs.walk_round.Tie as tie
 
@@ -18,7 +17,7 @@ first-station-requires c κs = search needs
 walk-run-requires : tie.Need-walk-run-requires
 walk-run-requires c κs =
     let b = c .before .before .before .before in
-    omega (arith, c .before .first-station .ensures, ap length (b .pre .1 .1), length-replicate {A = ℕ} (b .args .s .width) 0)
+    omega (arith, c .before .first-station .ensures, ap length (b .pre .1 .1), length-replicate {A = ℕ} (b .args .width) 0)
 
 walk-run-requires-2 : tie.Need-walk-run-requires-2
 walk-run-requires-2 c κs =
@@ -30,14 +29,13 @@ walk-run-requires-2 c κs =
       r .walk-run .kept .1 .1 .0,
       r .walk-run .ensures .counted,
       ap length (b .pre .1 .1),
-      length-replicate {A = ℕ} (b .args .s .width) 0,
+      length-replicate {A = ℕ} (b .args .width) 0,
     )
 
 -- both runs done
 walked : (c : tie.After-walk-run2)
-    → let b = c .before .before .before .before .before .before .before .before .before .args in
-    let s = b .s in
-    Walk.Walked (s .width) (s .picks) (s .head) (asking s (b .requests .now)) (c .walk-run2 .result .count) (c .walk-run2 .result .last)
+    → let a = c .before .before .before .before .before .before .before .before .before .args in
+    Walk.Walked (a .width) (a .picks) (a .head) (requested (a .requests .now)) (c .walk-run2 .result .count) (c .walk-run2 .result .last)
     (c .walk-run2 .last .1 .1 .0)
 walked c =
     let one = c .before .before .before .before in
@@ -55,23 +53,14 @@ add-next c =
 rem-next : tie.Need-rem-next
 rem-next c = search needs
 
-moved-requires : tie.Need-moved-requires
-moved-requires c κs = search needs
-
-served-requires : tie.Need-served-requires
-served-requires c κs = search needs
-
 same-length : tie.Need-same-length
 same-length c = search needs
 
 returns : tie.Need-returns
 returns c =
-    let r = c .before .before .before .before .before .before .before .before in
-    let b = r .before .before .before .before .before .before .before .before .before .args in
-    let w = walked r in (
-      c .served .ensures ∙ ap (served _) (c .before .moved .ensures) ∙ walked-some (b .s) (b .requests .now) w refl (omega arith),
-      w .bytes,
-    )
+    let r = c .before .before .before .before .before in
+    let w = walked r in
+    (walked-some _ _ _ _ w refl (omega arith), w .bytes)
 
 idle-requires : tie.Need-idle-requires
 idle-requires c κs = search needs
@@ -82,10 +71,8 @@ same-length-2 c = search needs
 returns-2 : tie.Need-returns-2
 returns-2 c =
     let e = c .before in
-    let r = e .before .before .before .before in
-    let b = r .before .before .before .before .before .before .before .before .before .args in
-    let w = walked r in
-    (c .idle .ensures ∙ walked-none (b .s) (b .requests .now) w (e .if1 .left), w .bytes)
+    let w = walked (e .before .before .before .before) in
+    (c .idle .ensures ∙ walked-none _ _ _ _ w (e .if1 .left), w .bytes)
 
 pub walk-round-spec : {M : Type 1} → statement M
 walk-round-spec =
@@ -96,8 +83,6 @@ walk-round-spec =
     walk-run-requires-2
     add-next
     rem-next
-    moved-requires
-    served-requires
     same-length
     returns
     idle-requires

@@ -8,17 +8,17 @@ use lib.ListN.{length, length-set}
 use borrow.Author.Tests.{eq-eqb, ne-eqb}
 use Rattle.rules.specs.Walk.{Ran}
 use Rattle.rules.specs.Walk.Laws as Walk
-use Rattle.arbiter.specs.Cycle.{asking}
+use Rattle.arbiter.specs.Decisions.{requested}
 use Rattle.scan.proofs.walk_run.Statement.{statement}
 use Rattle.scan.proofs.walk_run.Tie as tie
 
 abbrev Inv-loop : tie.InvT-loop
-Inv-loop s requests grants₀ from to count₀ last₀ i₀ grants count last i =
+Inv-loop picks requests grants₀ from to count₀ last₀ i₀ grants count last i =
     (from ≤ i) × (i ≤ to) × (length grants ≡ length grants₀)
-    × Ran (s .picks) (asking s requests) from i count₀ last₀ grants₀ count last grants
+    × Ran picks (requested requests) from i count₀ last₀ grants₀ count last grants
 
 abbrev μ-loop : tie.MeasureT-loop
-μ-loop s requests grants₀ from to count₀ last₀ i₀ grants count last i = to - i
+μ-loop picks requests grants₀ from to count₀ last₀ i₀ grants count last i = to - i
 
 loop-holds : tie.Need-loop-holds Inv-loop μ-loop
 loop-holds c = (omega arith, omega arith, omega arith, Walk.begin _ _ _ _ _ _ (omega arith))
@@ -28,8 +28,8 @@ same-length c = omega arith
 
 returns : tie.Need-returns Inv-loop μ-loop
 returns c =
-    let l = c .before .before .before .loop in
-    let used-up : l .count ≡ c .before .before .before .before .args .s .picks = omega (arith, l .inv .3 .counted) in
+    let l = c .before .before .loop in
+    let used-up : l .count ≡ c .before .before .before .args .picks = omega (arith, l .inv .3 .counted) in
     Walk.full _ _ _ _ _ _ (l .i) (l .inv .0) _ _ _ (l .inv .3) _ (omega arith) used-up
 
 shared-slice-read-if2 : tie.Need-shared-slice-read-if2 Inv-loop μ-loop
@@ -39,7 +39,7 @@ slice-write-grants : tie.Need-slice-write-grants Inv-loop μ-loop
 slice-write-grants c = omega arith
 
 add-count : tie.Need-add-count Inv-loop μ-loop
-add-count c = omega (arith, c .before .before .before .before .before .loop .inv .3 .counted)
+add-count c = omega (arith, c .before .before .before .before .loop .inv .3 .counted)
 
 add-i : tie.Need-add-i Inv-loop μ-loop
 add-i c = omega arith
@@ -49,7 +49,7 @@ loop-less c = omega arith
 
 loop-again : tie.Need-loop-again Inv-loop μ-loop
 loop-again c =
-    let l = c .before .before .before .before .before .loop in
+    let l = c .before .before .before .before .loop in
     ⊎-elim
     (λ w.
     rw (w .1, w .2, w .3) (
