@@ -8,8 +8,7 @@ use lib.Count.{ones}
 use lib.ListN.{length, getD}
 use Rattle.rules.specs.Thermometer.{isCode}
 use Rattle.rules.specs.Walk as Walks
-use Rattle.arbiter.specs.declared.State.{State}
-use Rattle.arbiter.specs.Cycle.{asking}
+use Rattle.arbiter.specs.Decisions.{requested}
 use Rattle.thermometer.specs.declared.Walk.{Walk}
 pub mod Laws
 
@@ -21,8 +20,8 @@ begun = record { code = 0; last = 0 }
 abbrev pub Bits : List ℕ → Type 0
 Bits bytes = (i : ℕ) → i < length bytes → getD bytes i 0 ≤ 1
 
--- a run from one station up to another: the walk and the grant buffer before it, and those after it. The count that it carries
+-- a run with m picks from one station up to another: the walk and the grant buffer before it, and those after it. The count that it carries
 -- is a code for the picks
-pub record Ran (s : State) (requests : List ℕ) (from to : ℕ) (walk : Walk) (old : List ℕ) (now : Walk) (new : List ℕ) : Type 0 where
-  pub coded : isCode (s .picks) (now .code) ≡ true
-  pub ran : Walks.Ran (s .picks) (asking s requests) from to (ones (walk .code)) (walk .last) old (ones (now .code)) (now .last) new
+pub record Ran (m : ℕ) (requests : List ℕ) (from to : ℕ) (walk : Walk) (old : List ℕ) (now : Walk) (new : List ℕ) : Type 0 where
+  pub coded : isCode m (now .code) ≡ true
+  pub ran : Walks.Ran m (requested requests) from to (ones (walk .code)) (walk .last) old (ones (now .code)) (now .last) new

@@ -3,8 +3,11 @@
 pub mod adder;
 
 use arbiter::Answer;
+use arbiter::Decision;
 use arbiter::State;
 use arbiter::clear;
+use arbiter::first_station;
+use arbiter::idle;
 use arbiter::question;
 use arbiter::refusal;
 use rules::Head;
@@ -12,9 +15,11 @@ ghost use mathlib.Core.Bool.{true};
 ghost use mathlib.Core.Path.{_≡_};
 ghost use Prim.Native.Nat.{_≤_, _<_};
 ghost use lib.ListN.{length, replicate};
+ghost use Rattle.rules.specs.RoundRobin as RoundRobin;
 ghost use Rattle.rules.specs.RoundRobin.{start};
 ghost use Rattle.rules.specs.Thermometer.{isCode};
 ghost use Rattle.arbiter.specs.Cycle as Cycle;
+ghost use Rattle.arbiter.specs.Decisions.{requested, decision};
 ghost use Rattle.thermometer.specs.Runs.{Bits, Ran};
 
 // A state that the thermometer arbiter serves.
@@ -31,14 +36,14 @@ impl Thermometer {
     pub fn open(width: usize, picks: usize) -> Answer
         ensures { λ r. ⌜ r ≡ Cycle.opening width picks Head.None ⌝ }
     {
-        State::open(width, picks, Head::None)
+        Answer::open(width, picks, Head::None)
     }
 
     // Opens with a head. Asks 1, 3 and 4: of 4 stations, head 4 is refused by 4.
     pub fn open_at(width: usize, picks: usize, head: usize) -> Answer
         ensures { λ r. ⌜ r ≡ Cycle.opening width picks (Head.At head) ⌝ }
     {
-        State::open(width, picks, Head::At(head))
+        Answer::open(width, picks, Head::At(head))
     }
 
     // One cycle: writes the grants of these requests, and answers with their count and the next state. Asks 1, 3, 4, 5, 6
@@ -48,42 +53,54 @@ impl Thermometer {
         ensures { λ _. ⌜ now (grants .exit) ≡ (Cycle.cycle (self .0) (now (requests .entry)) (now (grants .entry))) .written ⌝ }
     {
         let s = self.0;
-        let verdict = question::cycle(s, requests, grants.len());
+        let head = s.head;
+        let verdict = question::cycle(s.width, s.picks, head, requests, grants.len());
         if verdict.number != refusal::SERVED {
             return s.refused(verdict);
         }
         clear(grants);
-        count_round(s, requests, grants)
+        let decision = count_round(s.width, s.picks, head, requests, grants);
+        let next = decision.next;
+        s.served(decision.count, next)
     }
 }
 
 // A cycle that no question refuses, with a grant buffer that is all 0. It goes once round, from the head to the last station, and
 // then from 0 up to the head. What it has counted then is the number of grants, and the next head is one past the last of them.
-fn count_round(s: State, requests: &[u8], grants: &mut [u8]) -> Answer
-    requires { ⌜ start (s .head) < s .width ⌝ }
-    requires { ⌜ s .picks ≤ 8 ⌝ }
-    requires { ⌜ length (now requests) ≡ s .width ⌝ }
+fn count_round(
+    width: usize,
+    picks: usize,
+    head: Head,
+    requests: &[u8],
+    grants: &mut [u8],
+) -> Decision
+    requires { ⌜ start head < width ⌝ }
+    requires { ⌜ picks ≤ 8 ⌝ }
+    requires { ⌜ length (now requests) ≡ width ⌝ }
     requires { ⌜ Bits (now requests) ⌝ }
-    requires { ⌜ now grants ≡ replicate (s .width) 0 ⌝ }
-    ensures { λ r. ⌜ r ≡ Cycle.answer s (now (requests .entry)) ⌝ }
-    ensures { λ _. ⌜ now (grants .exit) ≡ Cycle.granting s (now (requests .entry)) ⌝ }
+    requires { ⌜ now grants ≡ replicate width 0 ⌝ }
+    ensures { λ r. ⌜ r ≡ decision width picks head (requested (now (requests .entry))) ⌝ }
+    ensures { λ _. ⌜ now (grants .exit) ≡ RoundRobin.grants width picks head (requested (now (requests .entry))) ⌝ }
 {
-    let first = s.first_station();
+    let first = first_station(head);
     let begun = Walk { code: 0, last: 0 };
-    let half = count_run(s, requests, grants, first, s.width, begun);
-    let walk = count_run(s, requests, grants, 0, first, half);
+    let half = count_run(picks, requests, grants, first, width, begun);
+    let walk = count_run(picks, requests, grants, 0, first, half);
     let count = adder::count(walk.code);
     if count != 0 {
-        let next = (walk.last + 1) % s.width;
-        return s.moved(Head::At(next)).served(count);
+        let next = (walk.last + 1) % width;
+        return Decision {
+            count,
+            next: Head::At(next),
+        };
     }
-    s.idle()
+    idle(width, head)
 }
 
 // Goes along the stations from `from` up to `to`, one adder step for each: a station is granted if it asks and the count before it
 // is below the picks. `walk` is how far the walk has come before, and the result how far it has come then.
 fn count_run(
-    s: State,
+    picks: usize,
     requests: &[u8],
     grants: &mut [u8],
     from: usize,
@@ -93,20 +110,20 @@ fn count_run(
     requires { ⌜ from ≤ to ⌝ }
     requires { ⌜ to ≤ length (now requests) ⌝ }
     requires { ⌜ to ≤ length (now grants) ⌝ }
-    requires { ⌜ s .picks ≤ 8 ⌝ }
-    requires { ⌜ isCode (s .picks) (walk .code) ≡ true ⌝ }
+    requires { ⌜ picks ≤ 8 ⌝ }
+    requires { ⌜ isCode picks (walk .code) ≡ true ⌝ }
     requires { ⌜ Bits (now requests) ⌝ }
-    ensures { λ r. ⌜ Ran s (now (requests .entry)) from to walk (now (grants .entry)) r (now (grants .exit)) ⌝ }
+    ensures { λ r. ⌜ Ran picks (now (requests .entry)) from to walk (now (grants .entry)) r (now (grants .exit)) ⌝ }
 {
     let mut code = walk.code;
     let mut last = walk.last;
     let mut i = from;
     while i < to {
-        if (requests[i] == 1) & (adder::count(code) < s.picks) {
+        if (requests[i] == 1) & (adder::count(code) < picks) {
             grants[i] = 1;
             last = i;
         }
-        code = adder::join(s.picks, code, requests[i]);
+        code = adder::join(picks, code, requests[i]);
         i += 1;
     }
     Walk { code, last }

@@ -8,17 +8,15 @@ use lib.ListN.{length, length-replicate}
 use borrow.Author.Needs.{needs}
 use Rattle.rules.specs.Thermometer.Laws.{zero-ones, zero-is-code}
 use Rattle.rules.specs.Walk.Laws as Walk
-use Rattle.arbiter.specs.Answers.{served}
-use Rattle.arbiter.specs.Cycle.{asking}
-use Rattle.arbiter.specs.Cycle.Laws.{walked-some, walked-none}
+use Rattle.arbiter.specs.Decisions.{requested}
+use Rattle.arbiter.specs.Decisions.Laws.{walked-some, walked-none}
 use Rattle.thermometer.proofs.count_round.Statement.{statement}
 use Rattle.thermometer.proofs.count_round.Tie as tie
 
 -- both runs done
 walked : (c : tie.After-count-run2)
-    → let b = c .before .before .before .before .before .before .before .before .before .args in
-    let s = b .s in
-    Walk.Walked (s .width) (s .picks) (s .head) (asking s (b .requests .now)) (ones (c .count-run2 .result .code))
+    → let a = c .before .before .before .before .before .before .before .before .before .args in
+    Walk.Walked (a .width) (a .picks) (a .head) (requested (a .requests .now)) (ones (c .count-run2 .result .code))
     (c .count-run2 .result .last) (c .count-run2 .last .1 .1 .0)
 walked c =
     let one = c .before .before .before .before in
@@ -33,9 +31,9 @@ first-station-requires c κs = search needs
 count-run-requires : tie.Need-count-run-requires
 count-run-requires c κs =
     let b = c .before .before .before .before in
-    let size = length-replicate {A = ℕ} (b .args .s .width) 0 in (
+    let size = length-replicate {A = ℕ} (b .args .width) 0 in (
       omega (arith, c .before .first-station .ensures),
-      (omega arith, (omega (arith, ap length (b .pre .1 .1 .1 .1), size), (b .pre .1 .0, (zero-is-code (b .args .s .picks), b .pre .1 .1 .1 .0)))),
+      (omega arith, (omega (arith, ap length (b .pre .1 .1 .1 .1), size), (b .pre .1 .0, (zero-is-code (b .args .picks), b .pre .1 .1 .1 .0)))),
     )
 
 count-run-requires-2 : tie.Need-count-run-requires-2
@@ -43,7 +41,7 @@ count-run-requires-2 c κs =
     let r = c .before .before .before in
     let b = r .before .before .before .before .before in
     let e = r .before .before .first-station .ensures in
-    let size = length-replicate {A = ℕ} (b .args .s .width) 0 in (
+    let size = length-replicate {A = ℕ} (b .args .width) 0 in (
       omega arith,
       (
         omega (arith, e),
@@ -67,26 +65,14 @@ add-next c =
 rem-next : tie.Need-rem-next
 rem-next c = search needs
 
-moved-requires : tie.Need-moved-requires
-moved-requires c κs = search needs
-
-served-requires : tie.Need-served-requires
-served-requires c κs = search needs
-
 same-length : tie.Need-same-length
 same-length c = search needs
 
 returns : tie.Need-returns
 returns c =
-    let k = c .before .before .before .before .before in
-    let r = k .before .before .before in
-    let b = r .before .before .before .before .before .before .before .before .before .args in
-    let w = walked r in (
-      c .served .ensures
-          ∙ ap (served _) (c .before .moved .ensures)
-          ∙ walked-some (b .s) (b .requests .now) w (k .count .ensures) (omega (arith, k .count .ensures)),
-      w .bytes,
-    )
+    let k = c .before .before in
+    let w = walked (k .before .before .before) in
+    (walked-some _ _ _ _ w (k .count .ensures) (omega (arith, k .count .ensures)), w .bytes)
 
 idle-requires : tie.Need-idle-requires
 idle-requires c κs = search needs
@@ -98,10 +84,8 @@ returns-2 : tie.Need-returns-2
 returns-2 c =
     let e = c .before in
     let k = e .before in
-    let r = k .before .before .before in
-    let b = r .before .before .before .before .before .before .before .before .before .args in
-    let w = walked r in
-    (c .idle .ensures ∙ walked-none (b .s) (b .requests .now) w (sym (k .count .ensures) ∙ e .if1 .left), w .bytes)
+    let w = walked (k .before .before .before) in
+    (c .idle .ensures ∙ walked-none _ _ _ _ w (sym (k .count .ensures) ∙ e .if1 .left), w .bytes)
 
 pub count-round-spec : {M : Type 1} → statement M
 count-round-spec =
@@ -113,8 +97,6 @@ count-round-spec =
     count-requires
     add-next
     rem-next
-    moved-requires
-    served-requires
     same-length
     returns
     idle-requires

@@ -12,19 +12,19 @@ use Rattle.rules.specs.Thermometer.{isCode}
 use Rattle.rules.specs.Thermometer.Laws.{code-few}
 use Rattle.rules.specs.Walk as Walks
 use Rattle.rules.specs.Walk.Laws as Walk
-use Rattle.arbiter.specs.Cycle.{asking}
+use Rattle.arbiter.specs.Decisions.{requested}
 use Rattle.thermometer.specs.Runs.{Ran}
 use Rattle.thermometer.proofs.Steps as Steps
 use Rattle.thermometer.proofs.count_run.Statement.{statement}
 use Rattle.thermometer.proofs.count_run.Tie as tie
 
 abbrev Inv-loop : tie.InvT-loop
-Inv-loop s requests grants₀ from to code₀ last₀ i₀ grants code last i =
-    (from ≤ i) × (i ≤ to) × (length grants ≡ length grants₀) × (isCode (s .picks) code ≡ true)
-    × Walks.Ran (s .picks) (asking s requests) from i (ones code₀) last₀ grants₀ (ones code) last grants
+Inv-loop picks requests grants₀ from to code₀ last₀ i₀ grants code last i =
+    (from ≤ i) × (i ≤ to) × (length grants ≡ length grants₀) × (isCode picks code ≡ true)
+    × Walks.Ran picks (requested requests) from i (ones code₀) last₀ grants₀ (ones code) last grants
 
 abbrev μ-loop : tie.MeasureT-loop
-μ-loop s requests grants₀ from to code₀ last₀ i₀ grants code last i = to - i
+μ-loop picks requests grants₀ from to code₀ last₀ i₀ grants code last i = to - i
 
 loop-holds : tie.Need-loop-holds Inv-loop μ-loop
 loop-holds c =
@@ -46,7 +46,7 @@ shared-slice-read-join c = omega arith
 
 join-requires : tie.Need-join-requires Inv-loop μ-loop
 join-requires c κs =
-    let b = c .before .before .before .before .before .before .before .before .before in b .pre .1 .1 .1 .0
+    let b = c .before .before .before .before .before .before .before .before in b .pre .1 .1 .1 .0
 
 add-i : tie.Need-add-i Inv-loop μ-loop
 add-i c = omega arith
@@ -56,9 +56,9 @@ loop-less c = omega arith
 
 loop-again : tie.Need-loop-again Inv-loop μ-loop
 loop-again c =
-    let l = c .before .before .before .before .before .before .before .loop in
-    let b = c .before .before .before .before .before .before .before .before .before .before in
-    let n = c .before .before .before .before .count .ensures in
+    let l = c .before .before .before .before .before .before .loop in
+    let b = c .before .before .before .before .before .before .before .before .before in
+    let n = c .before .before .before .count .ensures in
     let sum = c .join .ensures in
     let wire = b .pre .1 .1 .1 .1 .1 (l .i) (omega arith) in
     ⊎-elim

@@ -1,11 +1,13 @@
 -- `cycle` meets its contract: it asks its questions, and then a walk round gives the rule's answer and grants.
 -- Assumes nothing.
-use mathlib.Core.Path.{_∙_}
+use mathlib.Core.Path.{ap, _∙_}
 use native.Mathlib.Omega.{arith}
 use lib.ListN.{length}
 use borrow.Author.Needs.{needs}
+use Rattle.arbiter.specs.declared.Decision.{Decision}
 use Rattle.arbiter.specs.Answers.Laws.{written, unwritten}
-use Rattle.arbiter.specs.Cycle.Laws.{Ready, ready}
+use Rattle.arbiter.specs.Answers.{decided}
+use Rattle.arbiter.specs.Questions.Laws.{Ready, ready}
 use Rattle.thermometer.proofs.Thermometer.cycle.Statement.{statement}
 use Rattle.thermometer.proofs.Thermometer.cycle.Tie as tie
 
@@ -21,8 +23,10 @@ returns c =
 
 -- what is known once the questions have passed
 asked : (c : tie.Else1)
-    → let a = c .before .before .before .before .before .before .args in Ready (a .self .0) (a .requests .now) (length (a .grants .now))
-asked c = ready _ _ _ (c .before .before .cycle .ensures) (c .if1 .left)
+    → let a = c .before .before .before .before .before .before .args in
+    let s = a .self .0 in
+    Ready (s .width) (s .picks) (s .head) (a .requests .now) (length (a .grants .now))
+asked c = ready _ _ _ _ _ (c .before .before .cycle .ensures) (c .if1 .left)
 
 clear-requires : tie.Need-clear-requires
 clear-requires c κs = search needs
@@ -35,14 +39,20 @@ count-round-requires c κs =
       (e .allows .few, (e .asked, (λ i l. e .wires i (omega (arith, e .asked)), k .clear .ensures ∙ rw (e .room)))),
     )
 
+served-requires : tie.Need-served-requires
+served-requires c κs = search needs
+
 same-length : tie.Need-same-length
 same-length c = search needs
 
 returns-2 : tie.Need-returns-2
 returns-2 c =
-    let w = c .before .before in
+    let w = c .before .before .before in
     let e = w .before .before .before .before .before .before in
-    written _ _ (e .before .before .cycle .ensures) (e .if1 .left) (w .count-round .ensures .0) (w .count-round .ensures .1)
+    let s = e .before .before .before .before .before .before .args .self .0 in
+    written _ _ (e .before .before .cycle .ensures) (e .if1 .left)
+    (c .served .ensures ∙ ap (λ (d : Decision). decided s d) (w .count-round .ensures .0))
+    (w .count-round .ensures .1)
 
 pub cycle-spec : {M : Type 1} → statement M
 cycle-spec =
@@ -53,5 +63,6 @@ cycle-spec =
     returns
     clear-requires
     count-round-requires
+    served-requires
     same-length
     returns-2)
