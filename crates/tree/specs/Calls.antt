@@ -15,25 +15,21 @@ use Rattle.arbiter.specs.Answers.{refused, ifPassed, opened}
 use Rattle.arbiter.specs.Cycle.{asking, answer, granting}
 pub mod Laws
 
--- the questions of a state: 1, 2, 3 and 4
-abbrev pub state : State → Verdict
-state s =
-    Questions.width (s .width)
-    then Questions.treeWidth (s .width)
-    then Questions.onePick (s .picks)
-    then Questions.head (s .width) (s .head)
+-- 1, 2, 3 and 4
+abbrev pub state : ℕ → ℕ → Head → Verdict
+state n m h = Questions.width n then Questions.treeWidth n then Questions.onePick m then Questions.head n h
 
 -- "Opening takes N and m (and a head, if one is given)"
 abbrev pub opening : ℕ → ℕ → Head → Answer
-opening n m h = let s : State = record { width = n; picks = m; head = h } in opened (state s) s
+opening n m h = opened (state n m h) n m h
 
 -- the questions of a cycle with these requests, and a grant and a node buffer of these lengths: 1 to 8
-abbrev pub questions : State → List ℕ → ℕ → ℕ → Verdict
-questions s requests grantsSize nodesSize =
-    state s
-    then Questions.readLength (s .width) (length requests)
-    then Questions.writeLength (s .width) grantsSize
-    then Questions.nodesLength (s .width) nodesSize
+abbrev pub questions : ℕ → ℕ → Head → List ℕ → ℕ → ℕ → Verdict
+questions n m h requests grantsSize nodesSize =
+    state n m h
+    then Questions.readLength n (length requests)
+    then Questions.writeLength n grantsSize
+    then Questions.nodesLength n nodesSize
     then Questions.bits 0 requests
 
 -- what a cycle leaves: its answer, and the bytes that the two buffers then hold
@@ -46,7 +42,7 @@ pub record Outcome : Type 0 where
 -- head before the cycle"; a refusal "writes nothing"
 unfoldable pub cycle : State → List ℕ → List ℕ → List ℕ → Outcome
 cycle s requests grants nodes =
-    let v = questions s requests (length grants) (length nodes) in
+    let v = questions (s .width) (s .picks) (s .head) requests (length grants) (length nodes) in
     ifPassed v
     (record {
       answer = answer s requests;

@@ -5,8 +5,10 @@ mod nodes;
 mod question;
 
 use arbiter::Answer;
+use arbiter::Decision;
 use arbiter::State;
 use arbiter::clear;
+use arbiter::idle;
 use arbiter::refusal;
 use rules::Head;
 ghost use mathlib.Core.Path.{_≡_};
@@ -44,13 +46,16 @@ impl Tree {
         ensures { λ _. ⌜ now (nodes .exit) ≡ (Calls.cycle (self .0) (now (requests .entry)) (now (grants .entry)) (now (nodes .entry))) .nodes ⌝ }
     {
         let s = self.0;
-        let verdict = question::cycle(s, requests, grants.len(), nodes.len());
+        let head = s.head;
+        let verdict = question::cycle(s.width, s.picks, head, requests, grants.len(), nodes.len());
         if verdict.number != refusal::SERVED {
             return s.refused(verdict);
         }
         clear(grants);
-        nodes::build(s, requests, nodes);
-        grant(s, nodes, grants)
+        nodes::build(s.width, head, requests, nodes);
+        let decision = grant(s.width, head, nodes, grants);
+        let next = decision.next;
+        s.served(decision.count, next)
     }
 }
 
@@ -58,38 +63,41 @@ impl Tree {
 fn opening(width: usize, picks: usize, head: Head) -> Answer
     ensures { λ r. ⌜ r ≡ Calls.opening width picks head ⌝ }
 {
-    let s = State { width, picks, head };
-    s.opened(question::state(s))
+    let verdict = question::state(width, picks, head);
+    Answer::opened(verdict, width, picks, head)
 }
 
 // Grants the station that the descent reaches, if it asks. The grant buffer is all 0 before.
-fn grant(s: State, nodes: &[u8], grants: &mut [u8]) -> Answer
-    requires { ⌜ 1 ≤ s .width ⌝ }
-    requires { ⌜ s .width ≤ maxWidth ⌝ }
-    requires { ⌜ length (now nodes) ≡ 2 * s .width ⌝ }
-    requires { ⌜ Steps.Values (s .width) (now nodes) ⌝ }
-    requires { ⌜ now grants ≡ replicate (s .width) 0 ⌝ }
-    ensures { λ r. ⌜ r ≡ Steps.descended s (now (nodes .entry)) ⌝ }
-    ensures { λ _. ⌜ now (grants .exit) ≡ Rule.grants (s .width) (now (nodes .entry)) ⌝ }
+fn grant(width: usize, head: Head, nodes: &[u8], grants: &mut [u8]) -> Decision
+    requires { ⌜ 1 ≤ width ⌝ }
+    requires { ⌜ width ≤ maxWidth ⌝ }
+    requires { ⌜ length (now nodes) ≡ 2 * width ⌝ }
+    requires { ⌜ Steps.Values width (now nodes) ⌝ }
+    requires { ⌜ now grants ≡ replicate width 0 ⌝ }
+    ensures { λ r. ⌜ r ≡ Steps.descended width head (now (nodes .entry)) ⌝ }
+    ensures { λ _. ⌜ now (grants .exit) ≡ Rule.grants width (now (nodes .entry)) ⌝ }
 {
-    let station = descent::reached(s.width, nodes);
-    let leaf = s.width + station;
+    let station = descent::reached(width, nodes);
+    let leaf = width + station;
     let asks = nodes::s0(nodes[leaf]);
     if asks {
         grants[station] = 1;
     }
-    settle(s, station, asks)
+    settle(width, head, station, asks)
 }
 
-// The answer once the descent has reached a station: if it asks it is granted, and the next head is one past it.
-fn settle(s: State, station: usize, asks: bool) -> Answer
-    requires { ⌜ station < s .width ⌝ }
-    requires { ⌜ s .width ≤ maxWidth ⌝ }
-    ensures { λ r. ⌜ r ≡ Steps.settled s station asks ⌝ }
+// What is decided once the descent has reached a station: if it asks it is granted, and the next head is one past it.
+fn settle(width: usize, head: Head, station: usize, asks: bool) -> Decision
+    requires { ⌜ station < width ⌝ }
+    requires { ⌜ width ≤ maxWidth ⌝ }
+    ensures { λ r. ⌜ r ≡ Steps.settled width head station asks ⌝ }
 {
     if asks {
-        let next = (station + 1) % s.width;
-        return s.moved(Head::At(next)).served(1);
+        let next = (station + 1) % width;
+        return Decision {
+            count: 1,
+            next: Head::At(next),
+        };
     }
-    s.idle()
+    idle(width, head)
 }

@@ -1,6 +1,5 @@
 // The node buffer: byte 0 is 0, node 1 is the root, node u has the children 2u and 2u + 1, and station i is node width + i. A
 // node's value is 2 × S1 + S0: S1 says that the head is below it, S0 that a station below it asks.
-use arbiter::State;
 use rules::Head;
 ghost use mathlib.Core.Path.{_≡_};
 ghost use mathlib.Core.List.{map};
@@ -8,29 +7,28 @@ ghost use Prim.Native.Nat.{_+_, _-_, _*_, _≤_};
 ghost use lib.ListN.{length, drop};
 ghost use Rattle.rules.specs.Lists.{range};
 ghost use Rattle.rules.specs.Tree as Rule;
-ghost use Rattle.arbiter.specs.Cycle.{asking};
+ghost use Rattle.arbiter.specs.Decisions.{requested};
 
 // Writes the tree of these requests and the head.
-pub(crate) fn build(s: State, requests: &[u8], nodes: &mut [u8])
-    requires { ⌜ 1 ≤ s .width ⌝ }
-    requires { ⌜ length (now requests) ≡ s .width ⌝ }
-    requires { ⌜ length (now nodes) ≡ 2 * s .width ⌝ }
-    ensures { λ _. ⌜ now (nodes .exit) ≡ Rule.nodes (s .width) (s .head) (asking s (now (requests .entry))) ⌝ }
+pub(crate) fn build(width: usize, head: Head, requests: &[u8], nodes: &mut [u8])
+    requires { ⌜ 1 ≤ width ⌝ }
+    requires { ⌜ length (now requests) ≡ width ⌝ }
+    requires { ⌜ length (now nodes) ≡ 2 * width ⌝ }
+    ensures { λ _. ⌜ now (nodes .exit) ≡ Rule.nodes width head (requested (now (requests .entry))) ⌝ }
 {
-    write_leaves(s, requests, nodes);
-    join_all(s.width, nodes);
+    write_leaves(width, head, requests, nodes);
+    join_all(width, nodes);
 }
 
 // Writes the stations' nodes.
-fn write_leaves(s: State, requests: &[u8], nodes: &mut [u8])
-    requires { ⌜ length (now requests) ≡ s .width ⌝ }
-    requires { ⌜ length (now nodes) ≡ 2 * s .width ⌝ }
-    ensures { λ _. ⌜ drop (s .width) (now (nodes .exit)) ≡ map (Rule.leaf (s .head) (asking s (now (requests .entry)))) (range 0 (s .width)) ⌝ }
+fn write_leaves(width: usize, head: Head, requests: &[u8], nodes: &mut [u8])
+    requires { ⌜ length (now requests) ≡ width ⌝ }
+    requires { ⌜ length (now nodes) ≡ 2 * width ⌝ }
+    ensures { λ _. ⌜ drop width (now (nodes .exit)) ≡ map (Rule.leaf head (requested (now (requests .entry)))) (range 0 width) ⌝ }
 {
     let mut i: usize = 0;
-    while i < s.width {
-        let head = s.head;
-        nodes[s.width + i] = value(at_head(head, i), requests[i] == 1);
+    while i < width {
+        nodes[width + i] = value(at_head(head, i), requests[i] == 1);
         i += 1;
     }
 }

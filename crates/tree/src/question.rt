@@ -1,8 +1,8 @@
 // The questions that the tree asks. Those that are the tree's alone stand here, the others in `arbiter`.
-use arbiter::State;
 use arbiter::question;
 use arbiter::question::Verdict;
 use arbiter::refusal;
+use rules::Head;
 ghost use mathlib.Core.Path.{_≡_};
 ghost use Rattle.arbiter.specs.Questions as Questions;
 ghost use Rattle.tree.specs.Calls as Calls;
@@ -29,26 +29,32 @@ fn nodes_length(width: usize, length: usize) -> Verdict
     )
 }
 
-// Questions 1, 2, 3 and 4 of a state.
-pub(crate) fn state(s: State) -> Verdict
-    ensures { λ r. ⌜ r ≡ Calls.state s ⌝ }
+// Questions 1, 2, 3 and 4.
+pub(crate) fn state(width: usize, picks: usize, head: Head) -> Verdict
+    ensures { λ r. ⌜ r ≡ Calls.state width picks head ⌝ }
 {
-    let h = s.head;
-    let by_width = question::width(s.width);
-    let by_power = tree_width(s.width);
-    let by_picks = question::one_pick(s.picks);
-    let by_head = question::head(s.width, h);
+    let by_width = question::width(width);
+    let by_power = tree_width(width);
+    let by_picks = question::one_pick(picks);
+    let by_head = question::head(width, head);
     by_width.then(by_power).then(by_picks).then(by_head)
 }
 
 // Questions 1 to 8 of a cycle whose grant and node buffers have these lengths. The requests are read last.
-pub(crate) fn cycle(s: State, requests: &[u8], grants: usize, nodes: usize) -> Verdict
-    ensures { λ r. ⌜ r ≡ Calls.questions s (now (requests .entry)) grants nodes ⌝ }
+pub(crate) fn cycle(
+    width: usize,
+    picks: usize,
+    head: Head,
+    requests: &[u8],
+    grants: usize,
+    nodes: usize,
+) -> Verdict
+    ensures { λ r. ⌜ r ≡ Calls.questions width picks head (now (requests .entry)) grants nodes ⌝ }
 {
-    let by_state = state(s);
-    let by_requests = question::read_length(s.width, requests.len());
-    let by_grants = question::write_length(s.width, grants);
-    let by_nodes = nodes_length(s.width, nodes);
+    let by_state = state(width, picks, head);
+    let by_requests = question::read_length(width, requests.len());
+    let by_grants = question::write_length(width, grants);
+    let by_nodes = nodes_length(width, nodes);
     let unread = by_state.then(by_requests).then(by_grants).then(by_nodes);
     if unread.number != refusal::SERVED {
         return unread;

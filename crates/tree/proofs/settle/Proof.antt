@@ -3,7 +3,6 @@
 use mathlib.Core.Bool.{Bool}
 use mathlib.Core.Path.{sym, ap, _∙_}
 use borrow.Author.Needs.{needs}
-use Rattle.arbiter.specs.Answers.{served}
 use Rattle.tree.specs.Steps.{settled}
 use Rattle.tree.specs.Steps.Laws.{settled-one}
 use Rattle.tree.proofs.settle.Statement.{statement}
@@ -15,20 +14,11 @@ add-next c = search needs
 rem-next : tie.Need-rem-next
 rem-next c = search needs
 
-moved-requires : tie.Need-moved-requires
-moved-requires c κs = search needs
-
-served-requires : tie.Need-served-requires
-served-requires c κs = search needs
-
 returns : tie.Need-returns
 returns c =
-    let t = c .before .before .before in
-    let a = t .before .args in
-    c .served .ensures
-    ∙ ap (served 1) (c .before .moved .ensures)
-    ∙ settled-one (a .s) (a .station)
-    ∙ ap (λ (b : Bool). settled (a .s) (a .station) b) (sym (t .if1 .taken))
+    let a = c .before .args in
+    settled-one (a .width) (a .head) (a .station)
+    ∙ ap (λ (b : Bool). settled (a .width) (a .head) (a .station) b) (sym (c .if1 .taken))
 
 idle-requires : tie.Need-idle-requires
 idle-requires c κs = search needs
@@ -36,9 +26,7 @@ idle-requires c κs = search needs
 returns-2 : tie.Need-returns-2
 returns-2 c =
     let a = c .before .before .args in
-    c .idle .ensures ∙ ap (λ (b : Bool). settled (a .s) (a .station) b) (sym (c .before .if1 .left))
+    c .idle .ensures ∙ ap (λ (b : Bool). settled (a .width) (a .head) (a .station) b) (sym (c .before .if1 .left))
 
 pub settle-spec : {M : Type 1} → statement M
-settle-spec =
-    tie.close
-    (tie.spec add-next rem-next moved-requires served-requires returns idle-requires returns-2)
+settle-spec = tie.close (tie.spec add-next rem-next returns idle-requires returns-2)

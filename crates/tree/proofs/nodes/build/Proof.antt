@@ -21,7 +21,7 @@ unfolding nodes
 returns c =
     let j = c .before .before in
     let w = j .before .before .before .before in
-    let n = w .before .before .before .before .args .s .width in
+    let n = w .before .before .before .before .args .width in
     j .join-all .ensures ∙ ap (joined (n - 1)) (w .write-leaves .ensures)
 
 pub build-spec : {M : Type 1} → statement M

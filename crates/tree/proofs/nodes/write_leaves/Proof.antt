@@ -6,17 +6,17 @@ use native.Mathlib.Omega.{arith}
 use lib.ListN.{length, getD, length-set}
 use borrow.Author.Needs.{needs}
 use Rattle.rules.specs.Tree.{leaf}
-use Rattle.arbiter.specs.Cycle.{asking}
+use Rattle.arbiter.specs.Decisions.{requested}
 use Rattle.tree.proofs.Buffer.{leaf-value, leaves-more, leaves-all}
 use Rattle.tree.proofs.nodes.write_leaves.Statement.{statement}
 use Rattle.tree.proofs.nodes.write_leaves.Tie as tie
 
 abbrev Inv-loop : tie.InvT-loop
-Inv-loop s requests nodes₀ i₀ nodes i =
-    (i ≤ s .width) × (length nodes ≡ 2 * s .width) × ((j : ℕ) → j < i → getD nodes (s .width + j) 0 ≡ leaf (s .head) (asking s requests) j)
+Inv-loop width head requests nodes₀ i₀ nodes i =
+    (i ≤ width) × (length nodes ≡ 2 * width) × ((j : ℕ) → j < i → getD nodes (width + j) 0 ≡ leaf head (requested requests) j)
 
 abbrev μ-loop : tie.MeasureT-loop
-μ-loop s requests nodes₀ i₀ nodes i = s .width - i
+μ-loop width head requests nodes₀ i₀ nodes i = width - i
 
 loop-holds : tie.Need-loop-holds Inv-loop μ-loop
 loop-holds c = (omega arith, c .before .before .pre .1, λ j l. absurd (omega arith))
@@ -44,11 +44,11 @@ loop-less c = omega arith
 
 loop-again : tie.Need-loop-again Inv-loop μ-loop
 loop-again c =
-    let l = c .before .before .before .before .before .before .loop in
-    let b = c .before .before .before .before .before .before .before .before .before .args in (
+    let l = c .before .before .before .before .loop in
+    let a = c .before .before .before .before .before .before .before .args in (
       omega arith,
       simp length-set (omega arith),
-      leaves-more _ _ (l .nodes) (l .inv .1) (l .i) _ (omega arith) (l .inv .2) (leaf-value (b .s .head) (asking (b .s) (b .requests .now)) (l .i) (c .before .value .ensures) (c .before .before .before .at-head .ensures)),
+      leaves-more _ _ (l .nodes) (l .inv .1) (l .i) _ (omega arith) (l .inv .2) (leaf-value (a .head) (requested (a .requests .now)) (l .i) (c .value .ensures) (c .before .before .at-head .ensures)),
     )
 
 same-length : tie.Need-same-length Inv-loop μ-loop
@@ -56,7 +56,7 @@ same-length c = omega arith
 
 returns : tie.Need-returns Inv-loop μ-loop
 returns c =
-    let l = c .before .before .loop in
+    let l = c .before .loop in
     leaves-all _ _ (l .nodes) (l .inv .1) (λ j k. l .inv .2 j (omega arith))
 
 pub write-leaves-spec : {M : Type 1} → statement M

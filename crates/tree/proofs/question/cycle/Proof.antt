@@ -13,9 +13,9 @@ use Rattle.tree.proofs.question.cycle.Tie as tie
 -- what is asked before the requests are read
 unread : (c : tie.After-then3)
     → let a = c .before .before .before .before .before .before .before .before .args in
-    let n = a .s .width in
+    let n = a .width in
     c .then3 .result
-    ≡ (Calls.state (a .s)
+    ≡ (Calls.state n (a .picks) (a .head)
     then Questions.readLength n (length (a .requests .now))
     then Questions.writeLength n (a .grants)
     then Questions.nodesLength n (a .nodes))
