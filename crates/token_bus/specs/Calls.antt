@@ -10,21 +10,22 @@ use Rattle.rules.specs.declared.Head.the-variants.{At}
 use Rattle.rules.specs.RoundRobin.{start}
 use Rattle.rules.specs.Bus as Bus
 use Rattle.arbiter.specs.declared.Answer.{Answer}
+use Rattle.arbiter.specs.declared.Decision.{Decision}
 use Rattle.arbiter.specs.declared.State.{State}
 use Rattle.arbiter.specs.declared.question.Verdict.{Verdict}
 use Rattle.arbiter.specs.Questions as Questions
 use Rattle.arbiter.specs.Questions.{_then_}
-use Rattle.arbiter.specs.Answers.{Outcome, moved, served, opened, writes}
+use Rattle.arbiter.specs.Answers.{Outcome, decided, opened, writes}
 use Rattle.arbiter.specs.Cycle.{asking}
 pub mod Laws
 
--- the questions of a state: 1, 3 and 4
-abbrev pub state : State → Verdict
-state s = Questions.width (s .width) then Questions.onePick (s .picks) then Questions.token (s .width) (s .head)
+-- 1, 3 and 4
+abbrev pub state : ℕ → ℕ → Head → Verdict
+state n m h = Questions.width n then Questions.onePick m then Questions.token n h
 
 -- "Opening takes N and m (and a head, if one is given); without a head it starts at none, which for the bus is refused by 4"
 abbrev pub opening : ℕ → ℕ → Head → Answer
-opening n m h = let s : State = record { width = n; picks = m; head = h } in opened (state s) s
+opening n m h = opened (state n m h) n m h
 
 -- "For the bus the head is the token"
 abbrev pub token : State → ℕ
@@ -34,26 +35,28 @@ token s = start (s .head)
 abbrev pub acknowledged : ℕ → Bool
 acknowledged byte = eqb byte 1
 
--- the answer of a served cycle: how many are granted, and the state with the next token
+-- what a cycle decides, apart from any state: how many are granted, and the next token
+abbrev pub decision : ℕ → ℕ → Bool → (ℕ → Bool) → Decision
+decision n t ack asks = record { count = length (Bus.granted n t asks); next = At (Bus.next n t ack asks) }
+
+-- the answer of a served cycle
 abbrev pub answer : State → List ℕ → ℕ → Answer
-answer s requests byte =
-    let asks = asking s requests in
-    served (length (Bus.granted (s .width) (token s) asks)) (moved s (At (Bus.next (s .width) (token s) (acknowledged byte) asks)))
+answer s requests byte = decided s (decision (s .width) (token s) (acknowledged byte) (asking s requests))
 
 -- the grant buffer of a served cycle
 abbrev pub granting : State → List ℕ → List ℕ
 granting s requests = Bus.grants (s .width) (token s) (asking s requests)
 
 -- the questions of a cycle with these requests, a grant buffer of this length and this acknowledge byte: 1, 3, 4, 5, 6, 8 and 9
-abbrev pub questions : State → List ℕ → ℕ → ℕ → Verdict
-questions s requests size byte =
-    state s
-    then Questions.readLength (s .width) (length requests)
-    then Questions.writeLength (s .width) size
+abbrev pub questions : ℕ → ℕ → Head → List ℕ → ℕ → ℕ → Verdict
+questions n m h requests size byte =
+    state n m h
+    then Questions.readLength n (length requests)
+    then Questions.writeLength n size
     then Questions.bits 0 requests
     then Questions.acknowledge byte
 
 -- a cycle, with the grant buffer's former bytes
 abbrev pub cycle : State → List ℕ → List ℕ → ℕ → Outcome
 cycle s requests former byte =
-    writes (questions s requests (length former) byte) s (answer s requests byte) (granting s requests) former
+    writes (questions (s .width) (s .picks) (s .head) requests (length former) byte) s (answer s requests byte) (granting s requests) former

@@ -3,9 +3,11 @@
 mod question;
 
 use arbiter::Answer;
+use arbiter::Decision;
 use arbiter::State;
 use arbiter::clear;
 use arbiter::first_one;
+use arbiter::first_station;
 use arbiter::refusal;
 use rules::Head;
 ghost use mathlib.Core.Bool.{cond};
@@ -13,8 +15,7 @@ ghost use mathlib.Core.Path.{_≡_};
 ghost use Prim.Native.Nat.{_+_, _%_, _≤_, _<_};
 ghost use lib.ListN.{length, replicate};
 ghost use Rattle.rules.specs.Bus as Bus;
-ghost use Rattle.arbiter.specs.Answers as Answers;
-ghost use Rattle.arbiter.specs.Cycle.{asking};
+ghost use Rattle.arbiter.specs.Decisions.{requested};
 ghost use Rattle.arbiter.specs.Places as Places;
 ghost use Rattle.arbiter.specs.Questions.{maxWidth};
 ghost use Rattle.token_bus.specs.Calls as Calls;
@@ -45,12 +46,16 @@ impl TokenBus {
         ensures { λ _. ⌜ now (grants .exit) ≡ (Calls.cycle (self .0) (now (requests .entry)) (now (grants .entry)) acknowledge) .written ⌝ }
     {
         let s = self.0;
-        let verdict = question::cycle(s, requests, grants.len(), acknowledge);
+        let head = s.head;
+        let verdict = question::cycle(s.width, s.picks, head, requests, grants.len(), acknowledge);
         if verdict.number != refusal::SERVED {
             return s.refused(verdict);
         }
         clear(grants);
-        grant(s, requests, grants, acknowledge)
+        let token = first_station(head);
+        let decision = grant(s.width, token, requests, grants, acknowledge == 1);
+        let next = decision.next;
+        s.served(decision.count, next)
     }
 }
 
@@ -58,35 +63,47 @@ impl TokenBus {
 fn opening(width: usize, picks: usize, head: Head) -> Answer
     ensures { λ r. ⌜ r ≡ Calls.opening width picks head ⌝ }
 {
-    let s = State { width, picks, head };
-    s.opened(question::state(s))
+    let verdict = question::state(width, picks, head);
+    Answer::opened(verdict, width, picks, head)
 }
 
 // A cycle that no question refuses, with a grant buffer that is all 0.
-fn grant(s: State, requests: &[u8], grants: &mut [u8], acknowledge: u8) -> Answer
-    requires { ⌜ Calls.token s < s .width ⌝ }
-    requires { ⌜ s .width ≤ maxWidth ⌝ }
-    requires { ⌜ length (now requests) ≡ s .width ⌝ }
-    requires { ⌜ now grants ≡ replicate (s .width) 0 ⌝ }
-    ensures { λ r. ⌜ r ≡ Calls.answer s (now (requests .entry)) acknowledge ⌝ }
-    ensures { λ _. ⌜ now (grants .exit) ≡ Calls.granting s (now (requests .entry)) ⌝ }
+fn grant(
+    width: usize,
+    token: usize,
+    requests: &[u8],
+    grants: &mut [u8],
+    acknowledged: bool,
+) -> Decision
+    requires { ⌜ token < width ⌝ }
+    requires { ⌜ width ≤ maxWidth ⌝ }
+    requires { ⌜ length (now requests) ≡ width ⌝ }
+    requires { ⌜ now grants ≡ replicate width 0 ⌝ }
+    ensures { λ r. ⌜ r ≡ Calls.decision width token acknowledged (requested (now (requests .entry))) ⌝ }
+    ensures { λ _. ⌜ now (grants .exit) ≡ Bus.grants width token (requested (now (requests .entry))) ⌝ }
 {
-    let token = s.first_station();
-    let first = first_request(s, token, requests);
+    let first = first_request(width, token, requests);
     let Head::At(station) = first else {
-        return pass(s, token, false).served(0);
+        let kept = pass(width, token, false);
+        return Decision {
+            count: 0,
+            next: Head::At(kept),
+        };
     };
     grants[station] = 1;
-    pass(s, token, acknowledge == 1).served(1)
+    let next = pass(width, token, acknowledged);
+    Decision {
+        count: 1,
+        next: Head::At(next),
+    }
 }
 
 // The first station that asks in the order from the token, or none. Where none from the token to the last asks, it is the first
 // that asks at all.
-fn first_request(s: State, token: usize, requests: &[u8]) -> Head
-    requires { ⌜ token ≡ Calls.token s ⌝ }
-    requires { ⌜ Calls.token s < s .width ⌝ }
-    requires { ⌜ length (now requests) ≡ s .width ⌝ }
-    ensures { λ r. ⌜ r ≡ Places.first (Bus.granted (s .width) (Calls.token s) (asking s (now (requests .entry)))) ⌝ }
+fn first_request(width: usize, token: usize, requests: &[u8]) -> Head
+    requires { ⌜ token < width ⌝ }
+    requires { ⌜ length (now requests) ≡ width ⌝ }
+    ensures { λ r. ⌜ r ≡ Places.first (Bus.granted width token (requested (now (requests .entry)))) ⌝ }
 {
     let high = first_one(token, requests);
     match high {
@@ -95,15 +112,14 @@ fn first_request(s: State, token: usize, requests: &[u8]) -> Head
     }
 }
 
-// The state with the token one past `token`, modulo the width, if it moves, and else with the token there.
-fn pass(s: State, token: usize, moves: bool) -> State
-    requires { ⌜ token < s .width ⌝ }
-    requires { ⌜ s .width ≤ maxWidth ⌝ }
-    ensures { λ r. ⌜ r ≡ Answers.moved s (Head.At (cond moves ((token + 1) % s .width) token)) ⌝ }
+// The next token: one past `token`, modulo the width, if it moves, and else `token`.
+fn pass(width: usize, token: usize, moves: bool) -> usize
+    requires { ⌜ token < width ⌝ }
+    requires { ⌜ width ≤ maxWidth ⌝ }
+    ensures { λ r. ⌜ r ≡ cond moves ((token + 1) % width) token ⌝ }
 {
     if moves {
-        let next = (token + 1) % s.width;
-        return s.moved(Head::At(next));
+        return (token + 1) % width;
     }
-    s.moved(Head::At(token))
+    token
 }

@@ -1,5 +1,4 @@
 // The questions that the token bus asks. Those that are the bus's alone stand here, the others in `arbiter`.
-use arbiter::State;
 use arbiter::question;
 use arbiter::question::Verdict;
 use arbiter::refusal;
@@ -25,24 +24,30 @@ fn acknowledge(byte: u8) -> Verdict
     question::refuse_unless(byte <= 1, refusal::ACKNOWLEDGE, 0)
 }
 
-// Questions 1, 3 and 4 of a state.
-pub(crate) fn state(s: State) -> Verdict
-    ensures { λ r. ⌜ r ≡ Calls.state s ⌝ }
+// Questions 1, 3 and 4.
+pub(crate) fn state(width: usize, picks: usize, head: Head) -> Verdict
+    ensures { λ r. ⌜ r ≡ Calls.state width picks head ⌝ }
 {
-    let h = s.head;
-    let by_width = question::width(s.width);
-    let by_picks = question::one_pick(s.picks);
-    let by_token = token(s.width, h);
+    let by_width = question::width(width);
+    let by_picks = question::one_pick(picks);
+    let by_token = token(width, head);
     by_width.then(by_picks).then(by_token)
 }
 
 // Questions 1, 3, 4, 5, 6, 8 and 9 of a cycle whose grant buffer has this length. The requests are read last.
-pub(crate) fn cycle(s: State, requests: &[u8], length: usize, byte: u8) -> Verdict
-    ensures { λ r. ⌜ r ≡ Calls.questions s (now (requests .entry)) length byte ⌝ }
+pub(crate) fn cycle(
+    width: usize,
+    picks: usize,
+    head: Head,
+    requests: &[u8],
+    length: usize,
+    byte: u8,
+) -> Verdict
+    ensures { λ r. ⌜ r ≡ Calls.questions width picks head (now (requests .entry)) length byte ⌝ }
 {
-    let by_state = state(s);
-    let by_requests = question::read_length(s.width, requests.len());
-    let by_grants = question::write_length(s.width, length);
+    let by_state = state(width, picks, head);
+    let by_requests = question::read_length(width, requests.len());
+    let by_grants = question::write_length(width, length);
     let unread = by_state.then(by_requests).then(by_grants);
     if unread.number != refusal::SERVED {
         return unread;

@@ -24,7 +24,7 @@ returns c =
     let b = r .before .before in
     let a = b .args in
     let none = sym (r .first-one .ensures) ∙ c .before .enum-told .given .1 in
-    c .first-one2 .ensures ∙ found-low (a .s) (a .requests .now) (b .pre .1 .0) (a .token) (b .pre .0) (b .pre .1 .1) none
+    c .first-one2 .ensures ∙ found-low (a .width) (a .token) (a .requests .now) (b .pre .0) (b .pre .1) none
 
 returns-2 : tie.Need-returns-2
 returns-2 c =
@@ -32,7 +32,7 @@ returns-2 c =
     let b = r .before .before in
     let a = b .args in
     let is = c .enum-told2 .given .1 in
-    is ∙ found-high (a .s) (a .requests .now) (b .pre .1 .0) (a .token) _ (b .pre .0) (b .pre .1 .1) (sym (r .first-one .ensures) ∙ is)
+    is ∙ found-high (a .width) (a .token) (a .requests .now) (b .pre .0) _ (b .pre .1) (sym (r .first-one .ensures) ∙ is)
 
 pub first-request-spec : {M : Type 1} → statement M
 first-request-spec =

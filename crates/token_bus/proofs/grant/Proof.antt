@@ -1,7 +1,6 @@
 -- `grant` meets its contract: it grants the first station that asks, if there is one.
 -- Assumes nothing.
-use Prim.Native.Nat.{ℕ, _+_, _%_, _<_}
-use mathlib.Core.Bool.{cond}
+use Prim.Native.Nat.{ℕ, _<_}
 use mathlib.Core.List.{List}
 use mathlib.Core.Path.{_≡_, sym, ap, _∙_}
 use native.Mathlib.Omega.{arith}
@@ -9,16 +8,12 @@ use lib.ListN.{length, set, length-replicate}
 use borrow.Author.Needs.{needs}
 use Rattle.rules.specs.declared.Head.the-variants.{None, At}
 use Rattle.rules.specs.Bus as Bus
-use Rattle.arbiter.specs.Answers.{moved, served}
-use Rattle.arbiter.specs.Cycle.{asking}
+use Rattle.arbiter.specs.declared.Decision.{Decision}
+use Rattle.arbiter.specs.Decisions.{requested}
 use Rattle.arbiter.specs.Places.{first}
-use Rattle.token_bus.specs.Calls.{token, acknowledged}
-use Rattle.token_bus.specs.Calls.Laws.{idle-answer, idle-grants, granted-below, granted-answer, granted-grants}
+use Rattle.token_bus.specs.Calls.Laws.{idle-decides, idle-grants, granted-below, granted-decides, granted-grants}
 use Rattle.token_bus.proofs.grant.Statement.{statement}
 use Rattle.token_bus.proofs.grant.Tie as tie
-
-first-station-requires : tie.Need-first-station-requires
-first-station-requires c κs = search needs
 
 first-request-requires : tie.Need-first-request-requires
 first-request-requires c κs = search needs
@@ -32,90 +27,66 @@ enum-told c = search needs
 pass-requires : tie.Need-pass-requires
 pass-requires c κs = search needs
 
-served-requires : tie.Need-served-requires
-served-requires c κs = search needs
-
 -- nobody asks
 none : (c : tie.After-enum-told)
-    → let a = c .before .before .before .before .before .before .args in
-    first (Bus.granted (a .s .width) (token (a .s)) (asking (a .s) (a .requests .now))) ≡ None
+    → let a = c .before .before .before .before .before .args in
+    first (Bus.granted (a .width) (a .token) (requested (a .requests .now))) ≡ None
 none c = sym (c .before .before .first-request .ensures) ∙ c .enum-told .given .1
 
 returns : tie.Need-returns
 returns c =
-    let e = c .before .before in
-    let r = e .before .before in
-    let b = r .before .before .before .before in
-    let s = b .args .s in
-    let at = ap (λ (t : ℕ). served 0 (moved s (At t))) (r .before .first-station .ensures) in (
-      c .served .ensures
-          ∙ ap (served 0) (c .before .pass .ensures)
-          ∙ at
-          ∙ idle-answer s (b .args .requests .now) (b .pre .0) (b .args .acknowledge) (none e),
-      b .pre .1 .1 .1 ∙ idle-grants s (b .args .requests .now) (b .pre .0) (none e),
+    let e = c .before in
+    let b = e .before .before .before .before .before in
+    let a = b .args in (
+      rw (c .pass .ensures) (idle-decides (a .width) (a .token) (a .requests .now) (b .pre .0) (a .acknowledged) (none e)),
+      b .pre .1 .1 .1 ∙ idle-grants (a .width) (a .token) (a .requests .now) (b .pre .0) (none e),
     )
 
 -- this station is the first that asks
 some : (c : tie.After-first)
-    → let a = c .before .before .before .before .before .before .args in
-    first (Bus.granted (a .s .width) (token (a .s)) (asking (a .s) (a .requests .now))) ≡ At (c .first .given .0 .0)
+    → let a = c .before .before .before .before .before .args in
+    first (Bus.granted (a .width) (a .token) (requested (a .requests .now))) ≡ At (c .first .given .0 .0)
 some c = sym (c .before .before .first-request .ensures) ∙ c .first .given .1
-
--- and so it is a station
-below : (c : tie.After-first)
-    → let a = c .before .before .before .before .before .before .args in c .first .given .0 .0 < a .s .width
-below c =
-    let b = c .before .before .before .before .before .before in
-    granted-below (b .args .s) (b .args .requests .now) (b .pre .0) _ (some c)
 
 slice-write-grants : tie.Need-slice-write-grants
 slice-write-grants c =
     let k = c .before in
-    let b = k .before .before .before .before .before .before in
-    omega (arith, below k, ap length (b .pre .1 .1 .1), length-replicate {A = ℕ} (b .args .s .width) 0)
+    let b = k .before .before .before .before .before in
+    let a = b .args in
+    omega (
+      arith,
+      granted-below (a .width) (a .token) (a .requests .now) (b .pre .0) _ (some k),
+      ap length (b .pre .1 .1 .1),
+      length-replicate {A = ℕ} (a .width) 0,
+    )
 
 pass-requires-2 : tie.Need-pass-requires-2
-pass-requires-2 c κs =
-    let k = c .before in
-    let r = k .before .before in
-    let b = r .before .before .before .before in
-    (omega (arith, r .before .first-station .ensures, b .pre .0, below k), b .pre .1 .0)
-
-served-requires-2 : tie.Need-served-requires-2
-served-requires-2 c κs = search needs
+pass-requires-2 c κs = search needs
 
 same-length : tie.Need-same-length
 same-length c = search needs
 
 returns-2 : tie.Need-returns-2
 returns-2 c =
-    let k = c .before .before .before in
-    let r = k .before .before in
-    let b = r .before .before .before .before in
-    let s = b .args .s in
-    let w = k .first .given .0 .0 in
-    let at =
-    ap (λ (t : ℕ). served 1 (moved s (At (cond (acknowledged (b .args .acknowledge)) ((t + 1) % s .width) t)))) (r .before .first-station .ensures) in (
-      c .served2 .ensures
-          ∙ ap (served 1) (c .before .pass2 .ensures)
-          ∙ at
-          ∙ granted-answer s (b .args .requests .now) (b .pre .0) w (some k) (b .args .acknowledge),
-      ap (λ (l : List ℕ). set l w 1) (b .pre .1 .1 .1) ∙ granted-grants s (b .args .requests .now) (b .pre .0) w (some k),
+    let k = c .before .before in
+    let b = k .before .before .before .before .before in
+    let a = b .args in
+    let w = k .first .given .0 .0 in (
+      rw (c .pass2 .ensures) (granted-decides (a .width) (a .token) (a .requests .now) (b .pre .0) w (some k) (a .acknowledged)),
+      ap (λ (l : List ℕ). set l w 1) (b .pre .1 .1 .1)
+          ∙ granted-grants (a .width) (a .token) (a .requests .now) (b .pre .0) w (some k),
     )
 
 pub grant-spec : {M : Type 1} → statement M
 grant-spec =
     tie.close
     (tie.spec
-    first-station-requires
     first-request-requires
     enum-known-first
     enum-told
     pass-requires
-    served-requires
     returns
     slice-write-grants
     pass-requires-2
-    served-requires-2
     same-length
     returns-2)

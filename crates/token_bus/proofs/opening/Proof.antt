@@ -2,7 +2,6 @@
 -- Assumes nothing.
 use mathlib.Core.Path.{ap, _∙_}
 use borrow.Author.Needs.{needs}
-use Rattle.arbiter.specs.declared.State.{State}
 use Rattle.arbiter.specs.declared.question.Verdict.{Verdict}
 use Rattle.arbiter.specs.Answers.{opened}
 use Rattle.token_bus.proofs.opening.Statement.{statement}
@@ -17,8 +16,7 @@ opened-requires c κs = search needs
 returns : tie.Need-returns
 returns c =
     let a = c .before .before .args in
-    let s : State = record { width = a .width; picks = a .picks; head = a .head } in
-    c .opened .ensures ∙ ap (λ (v : Verdict). opened v s) (c .before .state .ensures)
+    c .opened .ensures ∙ ap (λ (v : Verdict). opened v (a .width) (a .picks) (a .head)) (c .before .state .ensures)
 
 pub opening-spec : {M : Type 1} → statement M
 opening-spec = tie.close (tie.spec state-requires opened-requires returns)

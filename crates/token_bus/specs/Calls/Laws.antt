@@ -1,4 +1,4 @@
--- Laws of the bus's calls: what is known once the questions have passed, and what a cycle answers and grants once the first
+-- Laws of the bus's calls: what is known once the questions have passed, and what a cycle decides and grants once the first
 -- station that asks is found.
 -- Assumes nothing.
 use Prim.Native.Nat.{ℕ, _+_, _-_, _%_, _≤_, _<_}
@@ -9,6 +9,7 @@ use native.Mathlib.Omega.{arith}
 use lib.Dec.{eqb, ltb}
 use lib.ListN.{length, set, replicate}
 use borrow.Author.Tests.{eq-eqb, ltb-true, ltb-false}
+use Rattle.rules.specs.declared.Head.{Head}
 use Rattle.rules.specs.declared.Head.the-variants.{None, At}
 use Rattle.rules.specs.Lists.{bit, range, filter, count, marks}
 use Rattle.rules.specs.Lists.Laws as Lists
@@ -16,53 +17,50 @@ use Rattle.rules.specs.RoundRobin.{start, order}
 use Rattle.rules.specs.RoundRobin.Laws as RoundRobin
 use Rattle.rules.specs.Bus as Bus
 use Rattle.rules.specs.Bus.Laws as BusLaws
-use Rattle.arbiter.specs.declared.State.{State}
+use Rattle.arbiter.specs.declared.Decision.{Decision}
 use Rattle.arbiter.specs.declared.question.Verdict.{Verdict}
 use Rattle.arbiter.specs.Places.{ones, first}
 use Rattle.arbiter.specs.Places.Laws.{first-none, first-some}
 use Rattle.arbiter.specs.Questions as Questions
 use Rattle.arbiter.specs.Questions.{_then_}
 use Rattle.arbiter.specs.Questions.Laws.{then-served, width-served, token-served, length-served}
-use Rattle.arbiter.specs.Answers.{moved, served}
-use Rattle.arbiter.specs.Cycle.{asking}
-use Rattle.token_bus.specs.Calls.{state, token, acknowledged, answer, granting, questions}
+use Rattle.arbiter.specs.Decisions.{requested}
+use Rattle.token_bus.specs.Calls.{state, decision, questions}
 
--- what is known of a state once 1, 3 and 4 have passed
-pub record Allowed (s : State) : Type 0 where
-  pub most : s .width ≤ Questions.maxWidth
-  pub station : token s < s .width
+-- what is known once 1, 3 and 4 have passed
+pub record Allowed (n : ℕ) (h : Head) : Type 0 where
+  pub most : n ≤ Questions.maxWidth
+  pub station : start h < n
 
-pub allowed : (s : State) → (state s) .number ≡ 0 → Allowed s
-allowed s z =
-    let n = s .width in
-    let b = then-served (Questions.width n then Questions.onePick (s .picks)) (Questions.token n (s .head)) z in
-    let a = then-served (Questions.width n) (Questions.onePick (s .picks)) (b .0) in
-    let t = token-served n (s .head) (b .1) in
-    let is : token s ≡ t .0 = ap start (t .2) ∙ RoundRobin.start-at (t .0) in
+pub allowed : (n m : ℕ) (h : Head) → (state n m h) .number ≡ 0 → Allowed n h
+allowed n m h z =
+    let b = then-served (Questions.width n then Questions.onePick m) (Questions.token n h) z in
+    let a = then-served (Questions.width n) (Questions.onePick m) (b .0) in
+    let t = token-served n h (b .1) in
+    let is : start h ≡ t .0 = ap start (t .2) ∙ RoundRobin.start-at (t .0) in
     record {
       most = width-served n (a .0) .1;
       station = omega (arith, is, t .1);
     }
 
 -- what is known of a cycle once all its questions have passed: r is the verdict that the call has in hand
-pub record Ready (s : State) (requests : List ℕ) (size : ℕ) : Type 0 where
-  pub allows : Allowed s
-  pub asked : length requests ≡ s .width
-  pub room : size ≡ s .width
+pub record Ready (n : ℕ) (h : Head) (requests : List ℕ) (size : ℕ) : Type 0 where
+  pub allows : Allowed n h
+  pub asked : length requests ≡ n
+  pub room : size ≡ n
 
-pub ready : {r : Verdict} (s : State) (requests : List ℕ) (size byte : ℕ) → r ≡ questions s requests size byte → r .number ≡ 0
-    → Ready s requests size
-ready s requests size byte e z =
-    let n = s .width in
-    let five = state s then Questions.readLength n (length requests) in
+pub ready : {r : Verdict} (n m : ℕ) (h : Head) (requests : List ℕ) (size byte : ℕ) → r ≡ questions n m h requests size byte
+    → r .number ≡ 0 → Ready n h requests size
+ready n m h requests size byte e z =
+    let five = state n m h then Questions.readLength n (length requests) in
     let six = five then Questions.writeLength n size in
     let eight = six then Questions.bits 0 requests in
     let d = then-served eight (Questions.acknowledge byte) (ap (λ (v : Verdict). v .number) (sym e) ∙ z) in
     let c = then-served six (Questions.bits 0 requests) (d .0) in
     let b = then-served five (Questions.writeLength n size) (c .0) in
-    let a = then-served (state s) (Questions.readLength n (length requests)) (b .0) in
+    let a = then-served (state n m h) (Questions.readLength n (length requests)) (b .0) in
     record {
-      allows = allowed s (a .0);
+      allows = allowed n m h (a .0);
       asked = length-served 4 n (length requests) (a .1);
       room = length-served 5 n size (b .1);
     }
@@ -123,55 +121,48 @@ module _ (n t : ℕ) (asks : ℕ → Bool) (station : t < n) where
       let ordered : asked-in-order ≡ low = in-two-runs ∙ ap (λ (ps : List ℕ). ps ++ low) e in
       ap first (all ∙ append-nil low ∙ sym ordered)
 
--- a cycle that no question refuses
-module _ (s : State) (requests : List ℕ) (station : token s < s .width) where
-  abbrev n : ℕ
-  n = s .width
+-- a cycle that no question refuses, from the token t
+module _ (n t : ℕ) (requests : List ℕ) (station : t < n) where
+  abbrev asks : ℕ → Bool
+  asks = requested requests
 
   abbrev granted : List ℕ
-  granted = Bus.granted n (token s) (asking s requests)
+  granted = Bus.granted n t asks
 
-  -- t is the token that the call has in hand. A search from there on finds whom the bus grants, or no one
-  pub found-high : (t w : ℕ) → t ≡ token s → length requests ≡ n → first (ones t requests) ≡ At w → At w ≡ first granted
-  found-high t w is long e =
-      let asks = asking s requests in
-      sym (first-granted n (token s) asks station
-      ∙ ap first (in-two-runs n (token s) asks station)
-      ∙ first-append (filter asks (range (token s) (n - token s))) (filter asks (range 0 (token s))) w (rw (is, long) at e))
+  -- a search from the token on finds whom the bus grants, or no one
+  pub found-high : (w : ℕ) → length requests ≡ n → first (ones t requests) ≡ At w → At w ≡ first granted
+  found-high w long e =
+      sym (first-granted n t asks station
+      ∙ ap first (in-two-runs n t asks station)
+      ∙ first-append (filter asks (range t (n - t))) (filter asks (range 0 t)) w (rw long at e))
 
   -- and then one from 0 on finds whom it grants
-  pub found-low : (t : ℕ) → t ≡ token s → length requests ≡ n → first (ones t requests) ≡ None → first (ones 0 requests) ≡ first granted
-  found-low t is long e =
-      let asks = asking s requests in
+  pub found-low : length requests ≡ n → first (ones t requests) ≡ None → first (ones 0 requests) ≡ first granted
+  found-low long e =
       let all : length requests - 0 ≡ n = omega arith in
-      rw all (below-token n (token s) asks station (first-none _ (rw (is, long) at e)))
-      ∙ sym (first-granted n (token s) asks station)
+      rw all (below-token n t asks station (first-none _ (rw long at e))) ∙ sym (first-granted n t asks station)
 
   -- no grant: the token stays
-  pub idle-answer : (byte : ℕ) → first granted ≡ None → served 0 (moved s (At (token s))) ≡ answer s requests byte
-  idle-answer byte e =
-      let none = first-none granted e in
-      rw (BusLaws.next-idle n (token s) (acknowledged byte) (asking s requests) none, none)
+  pub idle-decides : (ack : Bool) → first granted ≡ None → record { count = 0; next = At t } ≡ decision n t ack asks
+  idle-decides ack e = let none = first-none granted e in rw (BusLaws.next-idle n t ack asks none, none)
 
-  pub idle-grants : first granted ≡ None → replicate n 0 ≡ granting s requests
-  idle-grants e = Lists.marks-none n ∙ sym (BusLaws.grants-marks n (token s) (asking s requests) ∙ ap (marks n) (first-none granted e))
+  pub idle-grants : first granted ≡ None → replicate n 0 ≡ Bus.grants n t asks
+  idle-grants e = Lists.marks-none n ∙ sym (BusLaws.grants-marks n t asks ∙ ap (marks n) (first-none granted e))
 
   -- a grant: the token moves one on if it is acknowledged
   module _ (w : ℕ) (e : first granted ≡ At w) where
     only : granted ≡ w ∷ []
-    only = first-only granted w (BusLaws.granted-few n (token s) (asking s requests)) e
+    only = first-only granted w (BusLaws.granted-few n t asks) e
 
     pub granted-below : w < n
-    granted-below = first-below n (token s) (asking s requests) station w (sym (first-granted n (token s) (asking s requests) station) ∙ e)
+    granted-below = first-below n t asks station w (sym (first-granted n t asks station) ∙ e)
 
-    pub granted-answer : (byte : ℕ)
-        → served 1 (moved s (At (cond (acknowledged byte) ((token s + 1) % n) (token s)))) ≡ answer s requests byte
-    granted-answer byte = rw only (ap (λ (t : ℕ). served 1 (moved s (At t))) (to (acknowledged byte)))
+    pub granted-decides : (ack : Bool) → record { count = 1; next = At (cond ack ((t + 1) % n) t) } ≡ decision n t ack asks
+    granted-decides ack = rw only (ap (λ (k : ℕ). record { count = 1; next = At k }) (to ack))
       where
-        to : (b : Bool) → cond b ((token s + 1) % n) (token s) ≡ Bus.next n (token s) b (asking s requests)
-        to true = sym (BusLaws.next-acknowledged n (token s) (asking s requests) (omega (arith, ap length only)))
-        to false = sym (BusLaws.next-unacknowledged n (token s) (asking s requests))
+        to : (b : Bool) → cond b ((t + 1) % n) t ≡ Bus.next n t b asks
+        to true = sym (BusLaws.next-acknowledged n t asks (omega (arith, ap length only)))
+        to false = sym (BusLaws.next-unacknowledged n t asks)
 
-    pub granted-grants : set (replicate n 0) w 1 ≡ granting s requests
-    granted-grants =
-        Lists.marks-one n w granted-below ∙ sym (BusLaws.grants-marks n (token s) (asking s requests) ∙ ap (marks n) only)
+    pub granted-grants : set (replicate n 0) w 1 ≡ Bus.grants n t asks
+    granted-grants = Lists.marks-one n w granted-below ∙ sym (BusLaws.grants-marks n t asks ∙ ap (marks n) only)

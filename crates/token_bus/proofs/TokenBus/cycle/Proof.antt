@@ -1,9 +1,15 @@
 -- `cycle` meets its contract: it asks its questions, and then grants.
 -- Assumes nothing.
-use mathlib.Core.Path.{_∙_}
+use Prim.Native.Nat.{ℕ}
+use mathlib.Core.Path.{ap, _∙_}
 use lib.ListN.{length}
 use borrow.Author.Needs.{needs}
+use Rattle.rules.specs.Bus as Bus
+use Rattle.arbiter.specs.declared.Decision.{Decision}
+use Rattle.arbiter.specs.Answers.{decided}
 use Rattle.arbiter.specs.Answers.Laws.{written, unwritten}
+use Rattle.arbiter.specs.Cycle.{asking}
+use Rattle.token_bus.specs.Calls.{acknowledged, decision}
 use Rattle.token_bus.specs.Calls.Laws.{Ready, ready}
 use Rattle.token_bus.proofs.TokenBus.cycle.Statement.{statement}
 use Rattle.token_bus.proofs.TokenBus.cycle.Tie as tie
@@ -19,26 +25,43 @@ returns c = let v = c .before .before .before .cycle .ensures in unwritten _ _ _
 
 -- what is known once the questions have passed
 asked : (c : tie.Else1)
-    → let a = c .before .before .before .before .before .before .args in Ready (a .self .0) (a .requests .now) (length (a .grants .now))
-asked c = ready _ _ _ (c .before .before .before .before .before .before .args .acknowledge) (c .before .before .cycle .ensures) (c .if1 .left)
+    → let a = c .before .before .before .before .before .before .args in
+    Ready (a .self .0 .width) (a .self .0 .head) (a .requests .now) (length (a .grants .now))
+asked c =
+    let a = c .before .before .before .before .before .before .args in
+    ready _ (a .self .0 .picks) _ _ _ (a .acknowledge) (c .before .before .cycle .ensures) (c .if1 .left)
 
 clear-requires : tie.Need-clear-requires
 clear-requires c κs = search needs
 
+first-station-requires : tie.Need-first-station-requires
+first-station-requires c κs = search needs
+
 grant-requires : tie.Need-grant-requires
 grant-requires c κs =
-    let k = c .before .before .before in
+    let k = c .before .before .before .before in
     let e = asked (k .before .before) in
-    (e .allows .station, (e .allows .most, (e .asked, k .clear .ensures ∙ rw (e .room))))
+    (rw (c .before .first-station .ensures) (e .allows .station), (e .allows .most, (e .asked, k .clear .ensures ∙ rw (e .room))))
+
+served-requires : tie.Need-served-requires
+served-requires c κs = search needs
 
 same-length : tie.Need-same-length
 same-length c = search needs
 
 returns-2 : tie.Need-returns-2
 returns-2 c =
-    let w = c .before .before in
-    let e = w .before .before .before .before .before .before in
-    written _ _ (e .before .before .cycle .ensures) (e .if1 .left) (w .grant .ensures .0) (w .grant .ensures .1)
+    let w = c .before .before .before in
+    let f = w .before .before in
+    let e = f .before .before .before .before .before in
+    let a = e .before .before .before .before .before .before .args in
+    let s = a .self .0 in
+    let asks = asking s (a .requests .now) in
+    written _ _ (e .before .before .cycle .ensures) (e .if1 .left)
+    (c .served .ensures
+    ∙ ap (λ (d : Decision). decided s d)
+    (w .grant .ensures .0 ∙ ap (λ (t : ℕ). decision (s .width) t (acknowledged (a .acknowledge)) asks) (f .first-station .ensures)))
+    (w .grant .ensures .1 ∙ ap (λ (t : ℕ). Bus.grants (s .width) t asks) (f .first-station .ensures))
 
 pub cycle-spec : {M : Type 1} → statement M
 cycle-spec =
@@ -48,6 +71,8 @@ cycle-spec =
     refused-requires
     returns
     clear-requires
+    first-station-requires
     grant-requires
+    served-requires
     same-length
     returns-2)

@@ -13,9 +13,9 @@ use Rattle.token_bus.proofs.question.cycle.Tie as tie
 -- what is asked before the requests are read
 unread : (c : tie.After-then2)
     → let a = c .before .before .before .before .before .before .args in
-    let n = a .s .width in
+    let n = a .width in
     c .then2 .result
-    ≡ (Calls.state (a .s) then Questions.readLength n (length (a .requests .now)) then Questions.writeLength n (a .length))
+    ≡ (Calls.state n (a .picks) (a .head) then Questions.readLength n (length (a .requests .now)) then Questions.writeLength n (a .length))
 unread c =
     let w = c .before .before in
     let r = w .before in
