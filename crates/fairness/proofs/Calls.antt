@@ -1,17 +1,21 @@
--- What is known of the calls of a list: of a served one, that its grants and its next head are the rule's; of a refused one, that
--- it changes nothing.
+-- What is known of the calls of a list: of a served one, that its grants and its next head are the rule's, so that it is a cycle of
+-- the rule; of a refused one, that it changes nothing.
 -- Assumes nothing.
-use Prim.Native.Nat.{ℕ, _<_}
+use Prim.Native.Nat.{ℕ, _≤_, _<_}
 use mathlib.Core.Path.{_≡_, refl, sym, ap, _∙_}
 use mathlib.Core.Bool.{Bool, true, false, cond}
-use mathlib.Core.List.{List, [], _∷_, _++_}
+use mathlib.Core.List.{List, [], _∷_, map}
 use native.Mathlib.Omega.{arith}
-use lib.Dec.{eqb}
-use lib.ListN.{length}
-use borrow.Author.Tests.{eqb-true, eqb-false}
+use lib.Dec.{ltb, eqb}
+use lib.ListN.{length, getD, List·getD-eq-default}
+use borrow.Author.Tests.{ltb-true, ltb-false, eqb-true, eqb-false}
 use Rattle.rules.specs.declared.Head.{Head}
 use Rattle.rules.specs.declared.Head.the-variants.{At}
-use Rattle.rules.specs.RoundRobin.{start, next}
+use Rattle.rules.specs.Lists.{bit, member}
+use Rattle.rules.specs.Lists.Laws as Lists
+use Rattle.rules.specs.RoundRobin as Rule
+use Rattle.rules.specs.RoundRobin.{start}
+use Rattle.rules.specs.RoundRobin.Laws as Laws
 use Rattle.rules.specs.Bus as BusRule
 use Rattle.arbiter.specs.declared.Answer.{Answer}
 use Rattle.arbiter.specs.declared.State.{State}
@@ -24,24 +28,15 @@ use Rattle.tree.specs.Calls as Tree
 use Rattle.tree.specs.Calls.Laws as TreeLaws
 use Rattle.token_bus.specs.Calls as Bus
 use Rattle.token_bus.specs.Calls.Laws as BusLaws
-use Rattle.fairness.specs.Waiting.{Engine, scan, tree, thermometer, Call, Made, cycle, busCycle, RefusedUnchanged, run, served, asks, acknowledged}
-
--- cycles that follow one another from a head: each is right for the head it gets, and hands the next head on
-abbrev pub Follows : {C : Type 0} → (Head → C → Type 0) → (Head → C → Head) → Head → List C → Type 0
-Follows right next h [] = Unit {0}
-Follows right next h (c ∷ cs) = right h c × Follows right next (next h c) cs
-
--- and so do those that are left after some have passed
-pub resumed : {C : Type 0} (right : Head → C → Type 0) (next : Head → C → Head) (past rest : List C) (h : Head)
-    → Follows right next h (past ++ rest) → (k : Head) × Follows right next k rest
-resumed right next [] rest h run = (h, run)
-resumed right next (c ∷ cs) rest h run = resumed right next cs rest (next h c) (run .1)
+use Rattle.fairness.specs.Cycles as Cycles
+use Rattle.fairness.specs.Cycles.{Ruled, nextHead, Chain, Follows}
+use Rattle.fairness.specs.Waiting.{Engine, scan, tree, thermometer, Call, Made, cycle, busCycle, RefusedUnchanged, run, served, asks, granted, acknowledged}
 
 -- one more is kept, or is not
 kept : {C : Type 0} (right : Head → C → Type 0) (next : Head → C → Head) (h : Head) (c : C) (cs : List C) (keep : Bool)
-    → (keep ≡ true → right h c × Follows right next (next h c) cs)
-    → (keep ≡ false → Follows right next h cs)
-    → Follows right next h (cond keep (c ∷ cs) cs)
+    → (keep ≡ true → right h c × Chain right next (next h c) cs)
+    → (keep ≡ false → Chain right next h cs)
+    → Chain right next h (cond keep (c ∷ cs) cs)
 kept right next h c cs true f g = f refl
 kept right next h c cs false f g = g refl
 
@@ -53,11 +48,11 @@ module _ {How : Type 0} (leaves : How → State → List ℕ → List ℕ → Ou
     o .answer .number ≡ 0 → right h made × (o .answer .state ≡ moved s (next h made)))
     (refuses : RefusedUnchanged leaves) where
   -- from the state that a call returned
-  from : (k : Head) (q : State) (calls : List (Call How)) → q ≡ moved s k → Follows right next k (served (run leaves (moved s k) calls))
-      → Follows right next k (served (run leaves q calls))
+  from : (k : Head) (q : State) (calls : List (Call How)) → q ≡ moved s k → Chain right next k (served (run leaves (moved s k) calls))
+      → Chain right next k (served (run leaves q calls))
   from k q calls e f = rw e f
 
-  pub follows : (h : Head) (calls : List (Call How)) → Follows right next h (served (run leaves (moved s h) calls))
+  pub follows : (h : Head) (calls : List (Call How)) → Chain right next h (served (run leaves (moved s h) calls))
   follows h [] = tt
   follows h (c ∷ cs) =
       let o = leaves (c .how) (moved s h) (c .requests) (c .grants) in
@@ -76,14 +71,14 @@ writes-refused v s answer target former z n =
     (ap (λ (a : Answer). a .state) (sym (u .0)), sym (u .1))
 
 -- a call that is served by the round-robin rule
-pub record Ruled (s : State) (requests : List ℕ) (o : Outcome) : Type 0 where
+pub record Served (s : State) (requests : List ℕ) (o : Outcome) : Type 0 where
   pub some : 0 < s .picks
   pub head : start (s .head) < s .width
   pub asked : length requests ≡ s .width
   pub answers : o .answer ≡ Cycle.answer s requests
   pub grants : o .written ≡ Cycle.granting s requests
 
-cycle-served : (s : State) (requests former : List ℕ) → let o = Cycle.cycle s requests former in o .answer .number ≡ 0 → Ruled s requests o
+cycle-served : (s : State) (requests former : List ℕ) → let o = Cycle.cycle s requests former in o .answer .number ≡ 0 → Served s requests o
 cycle-served s requests former z =
     let v = Cycle.questions s requests (length former) in
     let p = writes-passed v s _ _ former z in
@@ -104,7 +99,7 @@ module _ (s : State) (requests former nodes : List ℕ) where
 
   -- served, it is by the rule as well
   tree-served : let o = Tree.cycle s requests former nodes in o .answer .number ≡ 0
-      → Ruled s requests (record { answer = o .answer; written = o .grants })
+      → Served s requests (record { answer = o .answer; written = o .grants })
   unfolding Tree.cycle
   tree-served z =
       let p = served-passed asked _ _ (λ (o : Tree.Outcome). o .answer .number) refl z in
@@ -128,7 +123,7 @@ module _ (s : State) (requests former nodes : List ℕ) where
 
 -- so any call of the three follows the rule, or changes nothing
 engine-served : (e : Engine) (s : State) (requests former : List ℕ) → (cycle e s requests former) .answer .number ≡ 0
-    → Ruled s requests (cycle e s requests former)
+    → Served s requests (cycle e s requests former)
 engine-served scan s requests former z = cycle-served s requests former z
 engine-served thermometer s requests former z = cycle-served s requests former z
 engine-served (tree nodes) s requests former z = tree-served s requests former nodes z
@@ -138,24 +133,56 @@ refused-unchanged scan s requests former n = writes-refused _ s _ _ former refl 
 refused-unchanged thermometer s requests former n = writes-refused _ s _ _ former refl n
 refused-unchanged (tree nodes) s requests former n = tree-refused s requests former nodes n
 
--- a served cycle of a list, with head h before it
+-- a served call of a list, with head h before it
 abbrev pub Right : State → Head → Made Engine → Type 0
-Right s h c = Ruled (moved s h) (c .call .requests) (c .left)
+Right s h c = Served (moved s h) (c .call .requests) (c .left)
+
+-- read as a cycle: the state's pick count, and who asks and who is granted by the bytes
+abbrev pub read : State → Made Engine → Cycles.Cycle
+read s c = record { picks = s .picks; asks = λ w. asks w c; grants = λ w. granted w c }
 
 -- the head after it
-abbrev pub nextHead : State → Head → Made Engine → Head
-nextHead s h c = next (s .width) (s .picks) h (λ w. asks w c)
+abbrev pub headAfter : State → Head → Made Engine → Head
+headAfter s h c = nextHead (s .width) h (read s c)
 
--- the served calls of a list by the three follow the rule
-pub cycles : (s : State) (calls : List (Call Engine)) → Follows (Right s) (nextHead s) (s .head) (served (run cycle s calls))
+-- the served calls of a list by the three follow one another
+pub cycles : (s : State) (calls : List (Call Engine)) → Chain (Right s) (headAfter s) (s .head) (served (run cycle s calls))
 cycles s calls =
-    follows cycle s (Right s) (nextHead s)
+    follows cycle s (Right s) (headAfter s)
     (λ h c z.
     let r = engine-served (c .how) (moved s h) (c .requests) (c .grants) z in
     (r, ap (λ (a : Answer). a .state) (r .answers)))
     refused-unchanged
     (s .head)
     calls
+
+bit-test : (b : Bool) → eqb (bit b) 1 ≡ b
+bit-test true = refl
+bit-test false = refl
+
+-- the grant buffer holds 1 for those that are granted alone
+marked : (n m : ℕ) (h : Head) (asks : ℕ → Bool) (w : ℕ) → start h < n
+    → eqb (getD (Rule.grants n m h asks) w 0) 1 ≡ member w (Rule.granted n m h asks)
+marked n m h asks w head =
+    Lists.split (ltb w n)
+    (λ t. rw (Laws.grants-member n m h asks w (ltb-true w n t)) (bit-test _))
+    (λ f.
+    let out : n ≤ w = omega (arith, ltb-false w n f) in
+    rw (List·getD-eq-default (Rule.grants n m h asks) 0 {n = w} (omega (arith, Laws.grants-length n m h asks)))
+    (sym (Laws.granted-outside n m h asks w (omega arith) out)))
+
+-- so each is a cycle by the rule
+read-ruled : (s : State) (h : Head) (c : Made Engine) → Right s h c → Ruled (s .width) h (read s c)
+read-ruled s h c r = record {
+  some = r .some;
+  head = r .head;
+  granted = λ w. rw (r .grants) (marked (s .width) (s .picks) h (λ v. asks v c) w (r .head));
+}
+
+-- and they follow one another by the rule
+pub read-follows : (s : State) (h : Head) (cs : List (Made Engine)) → Chain (Right s) (headAfter s) h cs → Follows (s .width) h (map (read s) cs)
+read-follows s h [] chain = tt
+read-follows s h (c ∷ cs) chain = (read-ruled s h c (chain .0), read-follows s (headAfter s h c) cs (chain .1))
 
 -- a call that is served by the bus's rule
 pub record BusRuled (s : State) (requests : List ℕ) (byte : ℕ) (o : Outcome) : Type 0 where
@@ -190,7 +217,7 @@ abbrev pub nextToken : State → Head → Made ℕ → Head
 nextToken s h c = At (BusRule.next (s .width) (start h) (acknowledged c) (λ w. asks w c))
 
 -- the served calls of a list of bus calls follow the bus's rule
-pub bus-cycles : (s : State) (calls : List (Call ℕ)) → Follows (BusRight s) (nextToken s) (s .head) (served (run busCycle s calls))
+pub bus-cycles : (s : State) (calls : List (Call ℕ)) → Chain (BusRight s) (nextToken s) (s .head) (served (run busCycle s calls))
 bus-cycles s calls =
     follows busCycle s (BusRight s) (nextToken s)
     (λ h c z.

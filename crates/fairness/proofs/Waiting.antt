@@ -1,9 +1,10 @@
--- The wait rule over every list of calls: the served ones follow the rules, and the rest is from the rules' laws alone.
+-- The wait rule over every list of calls. By the three engines: the served ones are cycles of the round-robin rule, for which it
+-- is proved in Cycles. On the bus: from the laws of the bus's rule.
 -- Assumes nothing.
 use Prim.Native.Nat.{ℕ, zero, suc, _+_, _*_, _%_, _≤_, _<_}
 use mathlib.Core.Path.{_≡_, refl, sym, ap, _∙_}
-use mathlib.Core.Bool.{Bool, true, false, _&&_, _||_, true≢false}
-use mathlib.Core.List.{List, [], _∷_, _++_}
+use mathlib.Core.Bool.{true, false, _&&_, true≢false}
+use mathlib.Core.List.{List, [], _∷_, _++_, map}
 use mathlib.Core.Logic.{_⊎_, inl, inr}
 use native.Mathlib.Omega.{arith}
 use native.Mathlib.Nat.{le-div-iff-mul-le}
@@ -12,24 +13,17 @@ use lib.ListN.{length, getD, take, drop, length-take, take-append-drop, List·ge
 use borrow.Author.Tests.{ltb-true, ltb-false, eqb-true, eq-eqb}
 use Rattle.rules.specs.declared.Head.{Head}
 use Rattle.rules.specs.declared.Head.the-variants.{At}
-use Rattle.rules.specs.Lists.{bit, filter, count, member, before}
+use Rattle.rules.specs.Lists.{bit, count, member, before}
 use Rattle.rules.specs.Lists.Laws as Lists
-use Rattle.rules.specs.RoundRobin as Rule
-use Rattle.rules.specs.RoundRobin.{start, order, next}
+use Rattle.rules.specs.RoundRobin.{start, order}
 use Rattle.rules.specs.RoundRobin.Laws as Laws
 use Rattle.rules.specs.Bus as Bus
 use Rattle.rules.specs.Bus.Laws as BusLaws
 use Rattle.arbiter.specs.declared.State.{State}
+use Rattle.fairness.specs.Cycles.{Chain, Waits, total}
 use Rattle.fairness.specs.Waiting.{Engine, Call, Made, cycle, run, served, asks, granted, Each, ceiling, Bounded, BoundedWaiting, AsksUntilGranted, GrantedInTime, acknowledged, BusBoundedWaiting}
-use Rattle.fairness.proofs.Calls.{Follows, resumed, Right, nextHead, cycles, BusRight, nextToken, bus-cycles}
-
-both-false : (a b : Bool) → (a || b) ≡ false → (a ≡ false) × (b ≡ false)
-both-false true b e = absurd (true≢false e)
-both-false false b e = (refl, e)
-
-bit-bit : (b : Bool) → bit (eqb (bit b) 1) ≡ bit b
-bit-bit true = refl
-bit-bit false = refl
+use Rattle.fairness.proofs.Cycles.{resumed, waiting-cycles}
+use Rattle.fairness.proofs.Calls.{Right, read, headAfter, cycles, read-follows, BusRight, nextToken, bus-cycles}
 
 -- whoever asks is a station: its byte is one of the n
 asking-station : (bytes : List ℕ) (n w : ℕ) → length bytes ≡ n → eqb (getD bytes w 0) 1 ≡ true → w < n
@@ -43,115 +37,25 @@ asking-station bytes n w long e =
       List·getD-eq-default bytes 0 {n = w} (omega (arith, ltb-false w n f)),
     )))
 
--- an order cut at the one granted last: w asks, is in the order and is not granted, so it stands behind the cut
-behind : (asks p : ℕ → Bool) (w : ℕ) (front : List ℕ) (final : ℕ) (back tail : List ℕ) → asks w ≡ true
-    → member w (filter asks front ++ (final ∷ [])) ≡ false
-    → member w (front ++ final ∷ back) ≡ true
-    → count p (filter asks front ++ (final ∷ [])) + count p (before w (back ++ tail)) ≤ count p (before w (front ++ final ∷ back))
-behind asks p w front final back tail t out here =
-    let parts = both-false (member w (filter asks front)) (eqb w final || false) (sym (Lists.member-append w (filter asks front) (final ∷ [])) ∙ out) in
-    let other : eqb w final ≡ false = both-false (eqb w final) false (parts .1) .0 in
-    let ahead : member w front ≡ false = sym (Lists.filter-keeps asks w front t) ∙ parts .0 in
-    let later : member w back ≡ true = rw (Lists.member-append w front (final ∷ back), ahead, other) at here in
-    rw (Lists.before-right w front (final ∷ back) ahead, Lists.before-left w back tail later, other)
-    (omega (
-      arith,
-      Lists.count-append p (filter asks front) (final ∷ []),
-      Lists.count-append p front (final ∷ before w back),
-      Lists.count-filter-le p asks front,
-    ))
-
--- a station that asks and is not granted: the cycle grants m others
-module _ (n m : ℕ) (h : Head) (asks : ℕ → Bool) (w : ℕ) (some : 0 < m) (head : start h < n) (station : w < n) (asking : asks w ≡ true)
-    (passed : member w (Rule.granted n m h asks) ≡ false) where
-  full : length (Rule.granted n m h asks) ≡ m
-  full =
-      let out : (asks w && ltb (count asks (before w (order n h))) m) ≡ false =
-      sym (Laws.granted-member n m h asks w (omega arith) station) ∙ passed in
-      omega (
-        arith,
-        ltb-false (count asks (before w (order n h))) m (rw asking at out),
-        Laws.before-count n h asks w (omega arith) station asking,
-        Laws.granted-length n m h asks,
-      )
-
-  -- whoever is counted: those granted, and those before w in the next order, were before w in this one
-  nearer : (p : ℕ → Bool)
-      → count p (Rule.granted n m h asks) + count p (before w (order n (next n m h asks))) ≤ count p (before w (order n h))
-  nearer p =
-      let c = Laws.cut n m h asks head (omega (arith, full)) in
-      rw (c .granted-is, c .order-next, c .order-is)
-      (behind asks p w (c .front) (c .final) (c .back) (c .front ++ (c .final ∷ [])) asking
-      (rw (c .granted-is) at passed)
-      (rw (c .order-is) at (Laws.order-member n h w (omega arith) station)))
-
-at-most-once : (n : ℕ) (h : Head) (v : ℕ) → start h < n → count (eqb v) (order n h) ≤ 1
-at-most-once n h v head =
-    Lists.split (ltb v n)
-    (λ t. omega (arith, Laws.order-once n h v (omega arith) (ltb-true v n t)))
-    (λ t. omega (arith, Laws.order-outside n h v (omega arith) (ltb-false v n t)))
-
--- the sum of a weight over a list
-sum : {A : Type 0} → (A → ℕ) → List A → ℕ
-sum f [] = 0
-sum f (c ∷ cs) = f c + sum f cs
-
-sum-const : {A : Type 0} (m : ℕ) (cs : List A) → sum (λ _. m) cs ≡ length cs * m
-unfolding sum
-sum-const m [] = omega arith
-sum-const m (c ∷ cs) = omega (arith, sum-const m cs)
-
-sum-count : {A : Type 0} (p : A → Bool) (cs : List A) → sum (λ c. bit (p c)) cs ≡ count p cs
-unfolding sum
-sum-count p [] = refl
-sum-count p (c ∷ cs) = omega (arith, sum-count p cs)
-
--- a list of calls from the state s
+-- served calls of a list from the state s, read as cycles
 module _ (s : State) where
-  abbrev n : ℕ
-  n = s .width
+  -- a station that asks in each and is granted in none waits in them
+  read-waits : (w : ℕ) (cs : List (Made Engine)) → Each (asks w) cs → count (granted w) cs ≡ 0 → Waits w (map (read s) cs)
+  read-waits w [] asking none = tt
+  read-waits w (c ∷ cs) asking none =
+      Lists.split (granted w c)
+      (λ t. absurd (omega (arith, ap bit t)))
+      (λ f. (asking .0, f, read-waits w cs (asking .1) (omega arith)))
 
-  abbrev m : ℕ
-  m = s .picks
+  -- they all have the state's pick count
+  read-total : (cs : List (Made Engine)) → total (map (read s) cs) ≡ length cs * s .picks
+  read-total [] = omega arith
+  read-total (c ∷ cs) = omega (arith, read-total cs)
 
-  -- whom a cycle grants
-  abbrev ruled : Head → Made Engine → List ℕ
-  ruled h c = Rule.granted n m h (λ w. asks w c)
-
-  -- its buffer holds 1 for the granted alone
-  not-granted : (h : Head) (c : Made Engine) (w : ℕ) → Right s h c → w < n → bit (granted w c) ≡ 0 → member w (ruled h c) ≡ false
-  not-granted h c w r k z =
-      Lists.split (member w (ruled h c))
-      (λ t. absurd (omega (arith, rw (r .grants, Laws.grants-member n m h (λ w. asks w c) w k, t) at z)))
-      (λ t. t)
-
-  granted-to : (h : Head) (c : Made Engine) (v : ℕ) → Right s h c → bit (granted v c) ≤ count (eqb v) (ruled h c)
-  granted-to h c v r =
-      Lists.split (ltb v n)
-      (λ t.
-      rw (r .grants, Laws.grants-member n m h (λ w. asks w c) v (ltb-true v n t), bit-bit)
-      (Lists.member-count v (ruled h c)))
-      (λ t.
-      rw (r .grants, List·getD-eq-default (Rule.grants n m h (λ w. asks w c)) 0 {n = v} (omega (arith, Laws.grants-length n m h (λ w. asks w c), ltb-false v n t)))
-      (omega arith))
-
-  -- while w waits, all that the cycles grant stood before w at the start
-  module _ (w : ℕ) (p : ℕ → Bool) (f : Made Engine → ℕ)
-      (weight : (h : Head) (c : Made Engine) → Right s h c → w < n → asks w c ≡ true → member w (ruled h c) ≡ false → f c ≤ count p (ruled h c)) where
-    waited : (cs rest : List (Made Engine)) (h : Head) → Follows (Right s) (nextHead s) h (cs ++ rest) → Each (asks w) cs
-        → count (granted w) cs ≡ 0 → sum f cs ≤ count p (before w (order n h))
-    unfolding sum
-    waited [] rest h follow asking none = omega arith
-    waited (c ∷ cs) rest h follow asking none =
-        let r = follow .0 in
-        let station = asking-station (c .call .requests) n w (r .asked) (asking .0) in
-        let out : member w (ruled h c) ≡ false = not-granted h c w r station (omega arith) in
-        omega (
-          arith,
-          weight h c r station (asking .0) out,
-          nearer n m h (λ w. asks w c) w (r .some) (r .head) station (asking .0) out p,
-          waited cs rest (nextHead s h c) (follow .1) (asking .1) (omega arith),
-        )
+  -- and grant the same stations
+  read-grants : (v : ℕ) (cs : List (Made Engine)) → count (λ c. c .grants v) (map (read s) cs) ≡ count (granted v) cs
+  read-grants v [] = refl
+  read-grants v (c ∷ cs) = omega (arith, read-grants v cs)
 
 -- k cycles of m each that are fewer than n in all are fewer than n / m rounded up
 below-ceiling : (n m k : ℕ) → 0 < m → k * m < n → k < ceiling n m
@@ -159,37 +63,21 @@ below-ceiling n m k h l = le-div-iff-mul-le h .1 (omega arith)
 
 pub bounded-waiting : BoundedWaiting
 bounded-waiting s calls w past waiting rest are taken asking none =
-    let r = resumed (Right s) (nextHead s) past (waiting ++ rest) (s .head) (rw are at (cycles s calls)) in
+    let r = resumed (Right s) (headAfter s) past waiting rest (s .head) (rw are at (cycles s calls)) in
     bounded waiting (r .0) (r .1) taken asking none
   where
-    bounded : (cs : List (Made Engine)) (h : Head) → Follows (Right s) (nextHead s) h (cs ++ rest) → 0 < length cs → Each (asks w) cs
+    bounded : (cs : List (Made Engine)) (h : Head) → Chain (Right s) (headAfter s) h cs → 0 < length cs → Each (asks w) cs
         → count (granted w) cs ≡ 0 → Bounded (s .width) (s .picks) cs
-    bounded [] h follow some each ungranted = absurd (omega arith)
-    bounded (c ∷ cs) h follow some each ungranted =
-        let n = s .width in
-        let m = s .picks in
-        let r = follow .0 in
-        let station = asking-station (c .call .requests) n w (r .asked) (each .0) in
-        let others : length (c ∷ cs) * m < n =
-        omega (
-          arith,
-          sum-const m (c ∷ cs),
-          waited s w (λ _. true) (λ _. m)
-              (λ g d q l t out. omega (arith, full n m g (λ v. asks v d) w (q .some) (q .head) l t out, Lists.count-all (ruled s g d)))
-              (c ∷ cs) rest h follow each ungranted,
-          Lists.count-all (before w (order n h)),
-          Laws.before-length n h w (omega (arith, r .head)) station,
-        ) in
+    bounded [] h chain some each ungranted = absurd (omega arith)
+    bounded (c ∷ cs) h chain some each ungranted =
+        let r = chain .0 in
+        let station = asking-station (c .call .requests) (s .width) w (r .asked) (each .0) in
+        let b =
+        waiting-cycles (s .width) h w (map (read s) (c ∷ cs)) station (read-follows s h (c ∷ cs) chain)
+        (read-waits s w (c ∷ cs) each ungranted) in
         record {
-          short = omega (arith, below-ceiling n m (length (c ∷ cs)) (r .some) others);
-          once = λ v.
-              omega (
-                arith,
-                sum-count (granted v) (c ∷ cs),
-                waited s w (eqb v) (λ d. bit (granted v d)) (λ g d q l t out. granted-to s g d v q) (c ∷ cs) rest h follow each ungranted,
-                Lists.count-before-le (eqb v) w (order n h),
-                at-most-once n h v (r .head),
-              );
+          short = below-ceiling (s .width) (s .picks) (length (c ∷ cs)) (r .some) (omega (arith, b .short, read-total s (c ∷ cs)));
+          once = λ v. omega (arith, b .once v, read-grants s v (c ∷ cs));
         }
 
 -- a station that asks until it is granted, and is not granted, asks in every cycle
@@ -209,7 +97,7 @@ module _ (s : State) (calls : List (Call Engine)) (w : ℕ) (past : List (Made E
   in-time limit enough =
       let within = take limit (first ∷ more) in
       let rest = drop limit (first ∷ more) in
-      let r = resumed (Right s) (nextHead s) past (first ∷ more) (s .head) (rw are at (cycles s calls)) .1 .0 in
+      let r = resumed (Right s) (headAfter s) past (first ∷ []) more (s .head) (rw are at (cycles s calls)) .1 .0 in
       let some = below-ceiling (s .width) (s .picks) 0 (r .some) (omega (arith, r .head)) in
       let size = length-take limit (first ∷ more) in
       Lists.split (ltb 0 (count (granted w) within))
@@ -239,15 +127,15 @@ module _ (s : State) (w : ℕ) where
   distance h = length (before w (order (s .width) (At (start h))))
 
   -- more acknowledged cycles than stations before w: one of them grants w
-  acknowledged-grant : (cs rest : List (Made ℕ)) (h : Head) → Follows (BusRight s) (nextToken s) h (cs ++ rest) → Each (asks w) cs
+  acknowledged-grant : (cs : List (Made ℕ)) (h : Head) → Chain (BusRight s) (nextToken s) h cs → Each (asks w) cs
       → distance h < count acknowledged cs
       → 0 < count (λ c. acknowledged c && granted w c) cs
   unfolding distance
-  acknowledged-grant [] rest h follow asking more = absurd (omega arith)
-  acknowledged-grant (c ∷ cs) rest h follow asking more =
+  acknowledged-grant [] h chain asking more = absurd (omega arith)
+  acknowledged-grant (c ∷ cs) h chain asking more =
       let n = s .width in
       let t = start h in
-      let r = follow .0 in
+      let r = chain .0 in
       let station = asking-station (c .call .requests) n w (r .asked) (asking .0) in
       let k = nextToken s h c in
       let at : distance k ≡ length (before w (order n (At (Bus.next n t (acknowledged c) (λ v. asks v c))))) =
@@ -263,7 +151,7 @@ module _ (s : State) (w : ℕ) where
       rw (a, g)
       (omega (
         arith,
-        acknowledged-grant cs rest k (follow .1) (asking .1)
+        acknowledged-grant cs k (chain .1) (asking .1)
             (omega (arith, at, ap (λ (u : ℕ). length (before w (order n (At u)))) to, bus-nearer n t w (r .token) station other, ap bit a)),
       ))))
       (λ a.
@@ -271,7 +159,7 @@ module _ (s : State) (w : ℕ) where
       rw a
       (omega (
         arith,
-        acknowledged-grant cs rest k (follow .1) (asking .1)
+        acknowledged-grant cs k (chain .1) (asking .1)
             (omega (arith, at, ap (λ (u : ℕ). length (before w (order n (At u)))) stays, ap bit a)),
       )))
     where
@@ -281,22 +169,22 @@ module _ (s : State) (w : ℕ) where
           (λ i.
           let q : w ≡ start h = eqb-true w (start h) i in
           let first : getD (c .left .written) w 0 ≡ 1 =
-          rw (follow .0 .grants, q) (BusLaws.grants-token (s .width) (start h) (λ v. asks v c) (follow .0 .token) (rw q at (asking .0))) in
+          rw (chain .0 .grants, q) (BusLaws.grants-token (s .width) (start h) (λ v. asks v c) (chain .0 .token) (rw q at (asking .0))) in
           absurd (true≢false (sym (eq-eqb _ 1 first) ∙ g)))
           (λ i. i)
 
 pub bus-bounded-waiting : BusBoundedWaiting
 unfolding distance
 bus-bounded-waiting s calls w past asking rest are taken asks-all exactly =
-    let r = resumed (BusRight s) (nextToken s) past (asking ++ rest) (s .head) (rw are at (bus-cycles s calls)) in
+    let r = resumed (BusRight s) (nextToken s) past asking rest (s .head) (rw are at (bus-cycles s calls)) in
     one asking (r .0) (r .1) taken asks-all (omega (arith, exactly))
   where
-    one : (cs : List (Made ℕ)) (h : Head) → Follows (BusRight s) (nextToken s) h (cs ++ rest) → 0 < length cs → Each (asks w) cs
+    one : (cs : List (Made ℕ)) (h : Head) → Chain (BusRight s) (nextToken s) h cs → 0 < length cs → Each (asks w) cs
         → s .width ≤ count acknowledged cs → 0 < count (λ c. acknowledged c && granted w c) cs
-    one [] h follow some each all = absurd (omega arith)
-    one (c ∷ cs) h follow some each all =
-        let r = follow .0 in
+    one [] h chain some each all = absurd (omega arith)
+    one (c ∷ cs) h chain some each all =
+        let r = chain .0 in
         let station = asking-station (c .call .requests) (s .width) w (r .asked) (each .0) in
         let head = BusLaws.token-head (s .width) (start h) (r .token) in
-        acknowledged-grant s w (c ∷ cs) rest h follow each
+        acknowledged-grant s w (c ∷ cs) h chain each
         (omega (arith, Laws.before-length (s .width) (At (start h)) w (omega arith) station))

@@ -1,1 +1,2 @@
+pub mod Cycles
 pub mod Waiting

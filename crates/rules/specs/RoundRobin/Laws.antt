@@ -3,7 +3,7 @@
 -- Assumes nothing.
 use Prim.Native.Nat.{ℕ, suc, _+_, _-_, _%_, _≤_, _<_, min}
 use mathlib.Core.Path.{_≡_, refl, sym, ap, _∙_}
-use mathlib.Core.Bool.{Bool, true, _&&_}
+use mathlib.Core.Bool.{Bool, true, false, _&&_}
 use mathlib.Core.Logic.{_⊎_, inl, inr, ⊎-elim}
 use mathlib.Core.List.{List, [], _∷_, _++_, append-assoc, append-nil}
 use native.Mathlib.Omega.{arith}
@@ -162,6 +162,16 @@ pub granted-member : (n m : ℕ) (h : Head) (asks : ℕ → Bool) (w : ℕ) → 
     → member w (granted n m h asks) ≡ (asks w && ltb (count asks (before w (order n h))) m)
 unfolding granted
 granted-member n m h asks w l k = Lists.member-first asks w (order n h) m (order-member n h w l k)
+
+-- only stations are granted
+pub granted-outside : (n m : ℕ) (h : Head) (asks : ℕ → Bool) (w : ℕ) → start h ≤ n → n ≤ w → member w (granted n m h asks) ≡ false
+unfolding granted
+granted-outside n m h asks w l k =
+    let out : member w (order n h) ≡ false =
+    Lists.split (member w (order n h))
+    (λ t. absurd (omega (arith, ap bit t, Lists.member-count w (order n h), order-outside n h w l k)))
+    (λ f. f) in
+    Lists.not-in-take w m (filter asks (order n h)) (Lists.member-filter asks w (order n h) ∙ rw out)
 
 -- m are granted, or all that ask if those are fewer
 pub granted-length : (n m : ℕ) (h : Head) (asks : ℕ → Bool) → length (granted n m h asks) ≡ min m (count asks (order n h))
