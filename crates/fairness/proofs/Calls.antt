@@ -23,14 +23,16 @@ use Rattle.arbiter.specs.declared.question.Verdict.{Verdict}
 use Rattle.arbiter.specs.Answers.{Outcome, moved, writes}
 use Rattle.arbiter.specs.Answers.Laws.{unwritten, served-passed, passed-is, if-refused, writes-passed, writes-is}
 use Rattle.arbiter.specs.Cycle as Cycle
-use Rattle.arbiter.specs.Cycle.Laws as CycleLaws
+use Rattle.arbiter.specs.Questions.Laws as Asked
 use Rattle.tree.specs.Calls as Tree
 use Rattle.tree.specs.Calls.Laws as TreeLaws
+use Rattle.engines.specs.declared.Engine.{Engine}
+use Rattle.engines.specs.declared.Engine.the-variants.{Scan, Tree, Thermometer}
 use Rattle.token_bus.specs.Calls as Bus
 use Rattle.token_bus.specs.Calls.Laws as BusLaws
 use Rattle.fairness.specs.Cycles as Cycles
 use Rattle.fairness.specs.Cycles.{Ruled, nextHead, Chain, Follows}
-use Rattle.fairness.specs.Waiting.{Engine, scan, tree, thermometer, Call, Made, cycle, busCycle, RefusedUnchanged, run, served, asks, granted, acknowledged}
+use Rattle.fairness.specs.Waiting.{By, Call, Made, cycle, busCycle, RefusedUnchanged, BusRefusedUnchanged, run, served, asks, granted, acknowledged}
 
 -- one more is kept, or is not
 kept : {C : Type 0} (right : Head → C → Type 0) (next : Head → C → Head) (h : Head) (c : C) (cs : List C) (keep : Bool)
@@ -46,7 +48,8 @@ module _ {How : Type 0} (leaves : How → State → List ℕ → List ℕ → Ou
     (serves : (h : Head) (c : Call How) → let o = leaves (c .how) (moved s h) (c .requests) (c .grants) in
     let made : Made How = record { call = c; left = o } in
     o .answer .number ≡ 0 → right h made × (o .answer .state ≡ moved s (next h made)))
-    (refuses : RefusedUnchanged leaves) where
+    (refuses : (h : Head) (c : Call How) → let o = leaves (c .how) (moved s h) (c .requests) (c .grants) in
+    (o .answer .number ≡ 0 → ⊥) → o .answer .state ≡ moved s h) where
   -- from the state that a call returned
   from : (k : Head) (q : State) (calls : List (Call How)) → q ≡ moved s k → Chain right next k (served (run leaves (moved s k) calls))
       → Chain right next k (served (run leaves q calls))
@@ -59,7 +62,7 @@ module _ {How : Type 0} (leaves : How → State → List ℕ → List ℕ → Ou
       let made : Made How = record { call = c; left = o } in
       kept right next h made _ (eqb (o .answer .number) 0)
       (λ t. let r = serves h c (eqb-true _ 0 t) in (r .0, from (next h made) _ cs (r .1) (follows (next h made) cs)))
-      (λ f. from h _ cs (refuses (c .how) (moved s h) (c .requests) (c .grants) (eqb-false _ 0 f) .0) (follows h cs))
+      (λ f. from h _ cs (refuses h c (eqb-false _ 0 f)) (follows h cs))
 
 -- a call that writes and is refused changes nothing; `answer` is what it would answer if it were served
 writes-refused : (v : Verdict) (s : State) (answer : Answer) (target former : List ℕ) → answer .number ≡ 0
@@ -82,7 +85,7 @@ cycle-served : (s : State) (requests former : List ℕ) → let o = Cycle.cycle 
 cycle-served s requests former z =
     let v = Cycle.questions s requests (length former) in
     let p = writes-passed v s _ _ former z in
-    let r = CycleLaws.ready s requests (length former) refl p in
+    let r = Asked.ready (s .width) (s .picks) (s .head) requests (length former) refl p in
     let is = writes-is v s (Cycle.answer s requests) (Cycle.granting s requests) former p in
     record {
       some = omega (arith, r .allows .picked);
@@ -95,7 +98,7 @@ cycle-served s requests former z =
 -- the tree's cycle: its questions
 module _ (s : State) (requests former nodes : List ℕ) where
   abbrev asked : Verdict
-  asked = Tree.questions s requests (length former) (length nodes)
+  asked = Tree.questions (s .width) (s .picks) (s .head) requests (length former) (length nodes)
 
   -- served, it is by the rule as well
   tree-served : let o = Tree.cycle s requests former nodes in o .answer .number ≡ 0
@@ -103,7 +106,7 @@ module _ (s : State) (requests former nodes : List ℕ) where
   unfolding Tree.cycle
   tree-served z =
       let p = served-passed asked _ _ (λ (o : Tree.Outcome). o .answer .number) refl z in
-      let r = TreeLaws.ready s requests (length former) (length nodes) refl p in
+      let r = TreeLaws.ready (s .width) (s .picks) (s .head) requests (length former) (length nodes) refl p in
       record {
         some = omega (arith, r .allows .one);
         head = r .allows .station;
@@ -114,45 +117,48 @@ module _ (s : State) (requests former nodes : List ℕ) where
 
   -- refused, it changes nothing
   tree-refused : let o = Tree.cycle s requests former nodes in
-      (o .answer .number ≡ 0 → ⊥) → (o .answer .state ≡ s) × (o .grants ≡ former)
+      (o .answer .number ≡ 0 → ⊥) → (o .answer .state ≡ s) × (o .grants ≡ former) × (o .nodes ≡ nodes)
   unfolding Tree.cycle
   tree-refused n =
       let fails : asked .number ≡ 0 → ⊥ = λ p. n (ap (λ (o : Tree.Outcome). o .answer .number) (passed-is asked _ _ p)) in
-      let is = sym (if-refused _ refl fails refl) in
-      (ap (λ (o : Tree.Outcome). o .answer .state) is, ap (λ (o : Tree.Outcome). o .grants) is)
+      let is = sym (if-refused _ refl fails refl) in (
+        ap (λ (o : Tree.Outcome). o .answer .state) is,
+        ap (λ (o : Tree.Outcome). o .grants) is,
+        ap (λ (o : Tree.Outcome). o .nodes) is,
+      )
 
 -- so any call of the three follows the rule, or changes nothing
-engine-served : (e : Engine) (s : State) (requests former : List ℕ) → (cycle e s requests former) .answer .number ≡ 0
-    → Served s requests (cycle e s requests former)
-engine-served scan s requests former z = cycle-served s requests former z
-engine-served thermometer s requests former z = cycle-served s requests former z
-engine-served (tree nodes) s requests former z = tree-served s requests former nodes z
+engine-served : (e : Engine) (s : State) (requests former nodes : List ℕ)
+    → let o = cycle (record { engine = e; nodes = nodes }) s requests former in o .answer .number ≡ 0 → Served s requests o
+engine-served Scan s requests former nodes z = cycle-served s requests former z
+engine-served Tree s requests former nodes z = tree-served s requests former nodes z
+engine-served Thermometer s requests former nodes z = cycle-served s requests former z
 
-pub refused-unchanged : RefusedUnchanged cycle
-refused-unchanged scan s requests former n = writes-refused _ s _ _ former refl n
-refused-unchanged thermometer s requests former n = writes-refused _ s _ _ former refl n
-refused-unchanged (tree nodes) s requests former n = tree-refused s requests former nodes n
+pub refused-unchanged : RefusedUnchanged
+refused-unchanged Scan s requests former nodes n = let u = writes-refused _ s _ _ former refl n in (u .0, u .1, refl)
+refused-unchanged Tree s requests former nodes n = tree-refused s requests former nodes n
+refused-unchanged Thermometer s requests former nodes n = let u = writes-refused _ s _ _ former refl n in (u .0, u .1, refl)
 
 -- a served call of a list, with head h before it
-abbrev pub Right : State → Head → Made Engine → Type 0
+abbrev pub Right : State → Head → Made By → Type 0
 Right s h c = Served (moved s h) (c .call .requests) (c .left)
 
 -- read as a cycle: the state's pick count, and who asks and who is granted by the bytes
-abbrev pub read : State → Made Engine → Cycles.Cycle
+abbrev pub read : State → Made By → Cycles.Cycle
 read s c = record { picks = s .picks; asks = λ w. asks w c; grants = λ w. granted w c }
 
 -- the head after it
-abbrev pub headAfter : State → Head → Made Engine → Head
+abbrev pub headAfter : State → Head → Made By → Head
 headAfter s h c = nextHead (s .width) h (read s c)
 
 -- the served calls of a list by the three follow one another
-pub cycles : (s : State) (calls : List (Call Engine)) → Chain (Right s) (headAfter s) (s .head) (served (run cycle s calls))
+pub cycles : (s : State) (calls : List (Call By)) → Chain (Right s) (headAfter s) (s .head) (served (run cycle s calls))
 cycles s calls =
     follows cycle s (Right s) (headAfter s)
     (λ h c z.
-    let r = engine-served (c .how) (moved s h) (c .requests) (c .grants) z in
+    let r = engine-served (c .how .engine) (moved s h) (c .requests) (c .grants) (c .how .nodes) z in
     (r, ap (λ (a : Answer). a .state) (r .answers)))
-    refused-unchanged
+    (λ h c n. refused-unchanged (c .how .engine) (moved s h) (c .requests) (c .grants) (c .how .nodes) n .0)
     (s .head)
     calls
 
@@ -172,7 +178,7 @@ marked n m h asks w head =
     (sym (Laws.granted-outside n m h asks w (omega arith) out)))
 
 -- so each is a cycle by the rule
-read-ruled : (s : State) (h : Head) (c : Made Engine) → Right s h c → Ruled (s .width) h (read s c)
+read-ruled : (s : State) (h : Head) (c : Made By) → Right s h c → Ruled (s .width) h (read s c)
 read-ruled s h c r = record {
   some = r .some;
   head = r .head;
@@ -180,7 +186,7 @@ read-ruled s h c r = record {
 }
 
 -- and they follow one another by the rule
-pub read-follows : (s : State) (h : Head) (cs : List (Made Engine)) → Chain (Right s) (headAfter s) h cs → Follows (s .width) h (map (read s) cs)
+pub read-follows : (s : State) (h : Head) (cs : List (Made By)) → Chain (Right s) (headAfter s) h cs → Follows (s .width) h (map (read s) cs)
 read-follows s h [] chain = tt
 read-follows s h (c ∷ cs) chain = (read-ruled s h c (chain .0), read-follows s (headAfter s h c) cs (chain .1))
 
@@ -194,9 +200,9 @@ pub record BusRuled (s : State) (requests : List ℕ) (byte : ℕ) (o : Outcome)
 bus-served : (byte : ℕ) (s : State) (requests former : List ℕ) → let o = busCycle byte s requests former in o .answer .number ≡ 0
     → BusRuled s requests byte o
 bus-served byte s requests former z =
-    let v = Bus.questions s requests (length former) byte in
+    let v = Bus.questions (s .width) (s .picks) (s .head) requests (length former) byte in
     let p = writes-passed v s _ _ former z in
-    let r = BusLaws.ready s requests (length former) byte refl p in
+    let r = BusLaws.ready (s .width) (s .picks) (s .head) requests (length former) byte refl p in
     let is = writes-is v s (Bus.answer s requests byte) (Bus.granting s requests) former p in
     record {
       token = r .allows .station;
@@ -205,7 +211,7 @@ bus-served byte s requests former z =
       grants = ap (λ (o : Outcome). o .written) is;
     }
 
-pub bus-refused-unchanged : RefusedUnchanged busCycle
+pub bus-refused-unchanged : BusRefusedUnchanged
 bus-refused-unchanged byte s requests former n = writes-refused _ s _ _ former refl n
 
 -- a served cycle of the bus, with the token before it in head h
@@ -223,6 +229,6 @@ bus-cycles s calls =
     (λ h c z.
     let r = bus-served (c .how) (moved s h) (c .requests) (c .grants) z in
     (r, ap (λ (a : Answer). a .state) (r .answers)))
-    bus-refused-unchanged
+    (λ h c n. bus-refused-unchanged (c .how) (moved s h) (c .requests) (c .grants) n .0)
     (s .head)
     calls

@@ -21,7 +21,7 @@ use Rattle.rules.specs.Bus as Bus
 use Rattle.rules.specs.Bus.Laws as BusLaws
 use Rattle.arbiter.specs.declared.State.{State}
 use Rattle.fairness.specs.Cycles.{Chain, Waits, total}
-use Rattle.fairness.specs.Waiting.{Engine, Call, Made, cycle, run, served, asks, granted, Each, ceiling, Bounded, BoundedWaiting, AsksUntilGranted, GrantedInTime, acknowledged, BusBoundedWaiting}
+use Rattle.fairness.specs.Waiting.{By, Call, Made, cycle, run, served, asks, granted, Each, ceiling, Bounded, BoundedWaiting, AsksUntilGranted, GrantedInTime, acknowledged, BusBoundedWaiting}
 use Rattle.fairness.proofs.Cycles.{resumed, waiting-cycles}
 use Rattle.fairness.proofs.Calls.{Right, read, headAfter, cycles, read-follows, BusRight, nextToken, bus-cycles}
 
@@ -40,7 +40,7 @@ asking-station bytes n w long e =
 -- served calls of a list from the state s, read as cycles
 module _ (s : State) where
   -- a station that asks in each and is granted in none waits in them
-  read-waits : (w : ℕ) (cs : List (Made Engine)) → Each (asks w) cs → count (granted w) cs ≡ 0 → Waits w (map (read s) cs)
+  read-waits : (w : ℕ) (cs : List (Made By)) → Each (asks w) cs → count (granted w) cs ≡ 0 → Waits w (map (read s) cs)
   read-waits w [] asking none = tt
   read-waits w (c ∷ cs) asking none =
       Lists.split (granted w c)
@@ -48,12 +48,12 @@ module _ (s : State) where
       (λ f. (asking .0, f, read-waits w cs (asking .1) (omega arith)))
 
   -- they all have the state's pick count
-  read-total : (cs : List (Made Engine)) → total (map (read s) cs) ≡ length cs * s .picks
+  read-total : (cs : List (Made By)) → total (map (read s) cs) ≡ length cs * s .picks
   read-total [] = omega arith
   read-total (c ∷ cs) = omega (arith, read-total cs)
 
   -- and grant the same stations
-  read-grants : (v : ℕ) (cs : List (Made Engine)) → count (λ c. c .grants v) (map (read s) cs) ≡ count (granted v) cs
+  read-grants : (v : ℕ) (cs : List (Made By)) → count (λ c. c .grants v) (map (read s) cs) ≡ count (granted v) cs
   read-grants v [] = refl
   read-grants v (c ∷ cs) = omega (arith, read-grants v cs)
 
@@ -66,7 +66,7 @@ bounded-waiting s calls w past waiting rest are taken asking none =
     let r = resumed (Right s) (headAfter s) past waiting rest (s .head) (rw are at (cycles s calls)) in
     bounded waiting (r .0) (r .1) taken asking none
   where
-    bounded : (cs : List (Made Engine)) (h : Head) → Chain (Right s) (headAfter s) h cs → 0 < length cs → Each (asks w) cs
+    bounded : (cs : List (Made By)) (h : Head) → Chain (Right s) (headAfter s) h cs → 0 < length cs → Each (asks w) cs
         → count (granted w) cs ≡ 0 → Bounded (s .width) (s .picks) cs
     bounded [] h chain some each ungranted = absurd (omega arith)
     bounded (c ∷ cs) h chain some each ungranted =
@@ -81,7 +81,7 @@ bounded-waiting s calls w past waiting rest are taken asking none =
         }
 
 -- a station that asks until it is granted, and is not granted, asks in every cycle
-asks-each : (w k : ℕ) (cs : List (Made Engine)) → AsksUntilGranted w cs → count (granted w) (take k cs) ≡ 0 → Each (asks w) (take k cs)
+asks-each : (w k : ℕ) (cs : List (Made By)) → AsksUntilGranted w cs → count (granted w) (take k cs) ≡ 0 → Each (asks w) (take k cs)
 asks-each w zero cs until none = tt
 asks-each w (suc k) [] until none = tt
 asks-each w (suc k) (c ∷ cs) until none =
@@ -90,7 +90,7 @@ asks-each w (suc k) (c ∷ cs) until none =
     (λ f. (until .0, asks-each w k cs (until .1 f) (omega arith)))
 
 -- it is granted within any number of cycles that is N/m rounded up or more, unless there are fewer
-module _ (s : State) (calls : List (Call Engine)) (w : ℕ) (past : List (Made Engine)) (first : Made Engine) (more : List (Made Engine))
+module _ (s : State) (calls : List (Call By)) (w : ℕ) (past : List (Made By)) (first : Made By) (more : List (Made By))
     (are : served (run cycle s calls) ≡ past ++ (first ∷ more)) (until : AsksUntilGranted w (first ∷ more)) where
   in-time : (limit : ℕ) → ceiling (s .width) (s .picks) ≤ limit
       → (0 < count (granted w) (take limit (first ∷ more))) ⊎ (length (first ∷ more) < limit)

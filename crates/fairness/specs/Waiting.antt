@@ -11,17 +11,17 @@ use lib.ListN.{length, getD, take}
 use Rattle.rules.specs.Lists.{filter, count}
 use Rattle.arbiter.specs.declared.State.{State}
 use Rattle.arbiter.specs.Answers.{Outcome}
-use Rattle.arbiter.specs.Cycle as Cycle
-use Rattle.tree.specs.Calls as Tree
+use Rattle.engines.specs.declared.Engine.{Engine}
+use Rattle.engines.specs.Calls as Engines
 use Rattle.token_bus.specs.Calls as Bus
 
--- "each cycle of the list may be by any of the three"; the tree is lent a node buffer too, which holds any bytes before
-pub data Engine : Type 0 where
-  scan : Engine
-  tree : List ℕ → Engine
-  thermometer : Engine
+-- "each cycle of the list may be by any of the three"; with it a node buffer is lent, which holds any bytes before and which only
+-- the tree looks at
+pub record By : Type 0 where
+  pub engine : Engine
+  pub nodes : List ℕ
 
--- a call, with whatever it is given: how it is made, by its engine or on the bus with an acknowledge byte; the requests; and the
+-- a call, with whatever it is given: how it is made, by an engine or on the bus with an acknowledge byte; the requests; and the
 -- bytes that the grant buffer holds before
 pub record Call (How : Type 0) : Type 0 where
   pub how : How
@@ -33,22 +33,27 @@ pub record Made (How : Type 0) : Type 0 where
   pub call : Call How
   pub left : Outcome
 
--- what a call leaves: "as that engine's rule above decides", by the definition that the engine's contract cites
-abbrev pub cycle : Engine → State → List ℕ → List ℕ → Outcome
-cycle scan s requests grants = Cycle.cycle s requests grants
-cycle thermometer s requests grants = Cycle.cycle s requests grants
-cycle (tree nodes) s requests grants =
-    let o = Tree.cycle s requests grants nodes in record { answer = o .answer; written = o .grants }
+-- what a call leaves: "as that engine's rule above decides", by the definition that the dispatcher's contract cites
+abbrev pub cycle : By → State → List ℕ → List ℕ → Outcome
+cycle by s requests grants =
+    let o = Engines.cycle (by .engine) s requests grants (by .nodes) in record { answer = o .answer; written = o .grants }
 
 -- the same of the bus, with its acknowledge byte
 abbrev pub busCycle : ℕ → State → List ℕ → List ℕ → Outcome
 busCycle acknowledge s requests grants = Bus.cycle s requests grants acknowledge
 
--- "a refused one changes nothing": it returns the state that it was given, and the grant buffer keeps its bytes
-abbrev pub RefusedUnchanged : {How : Type 0} → (How → State → List ℕ → List ℕ → Outcome) → Type 0
-RefusedUnchanged {How} leaves =
-    (how : How) (s : State) (requests grants : List ℕ)
-    → let o = leaves how s requests grants in
+-- "a refused one changes nothing": it returns the state that it was given, and grant buffer and node buffer keep their bytes
+abbrev pub RefusedUnchanged : Type 0
+RefusedUnchanged =
+    (e : Engine) (s : State) (requests grants nodes : List ℕ)
+    → let o = Engines.cycle e s requests grants nodes in
+    (o .answer .number ≡ 0 → ⊥) → (o .answer .state ≡ s) × (o .grants ≡ grants) × (o .nodes ≡ nodes)
+
+-- the same of the bus
+abbrev pub BusRefusedUnchanged : Type 0
+BusRefusedUnchanged =
+    (acknowledge : ℕ) (s : State) (requests grants : List ℕ)
+    → let o = busCycle acknowledge s requests grants in
     (o .answer .number ≡ 0 → ⊥) → (o .answer .state ≡ s) × (o .written ≡ grants)
 
 -- a list of calls: "Each cycle gets the state the last one returned", a refused one too
@@ -79,7 +84,7 @@ abbrev pub ceiling : ℕ → ℕ → ℕ
 ceiling n m = (n + (m - 1)) / m
 
 -- what is promised of a wait: "They are fewer than N/m rounded up, and no other station is granted twice in them"
-pub record Bounded (n m : ℕ) (waiting : List (Made Engine)) : Type 0 where
+pub record Bounded (n m : ℕ) (waiting : List (Made By)) : Type 0 where
   pub short : length waiting < ceiling n m
   pub once : (v : ℕ) → count (granted v) waiting ≤ 1
 
@@ -87,7 +92,7 @@ pub record Bounded (n m : ℕ) (waiting : List (Made Engine)) : Type 0 where
 -- which it is granted": some cycles, whatever was served before them and after them
 abbrev pub BoundedWaiting : Type 0
 BoundedWaiting =
-    (s : State) (calls : List (Call Engine)) (w : ℕ) (past waiting rest : List (Made Engine))
+    (s : State) (calls : List (Call By)) (w : ℕ) (past waiting rest : List (Made By))
     → served (run cycle s calls) ≡ past ++ (waiting ++ rest)
     → 0 < length waiting
     → Each (asks w) waiting
@@ -95,7 +100,7 @@ BoundedWaiting =
     → Bounded (s .width) (s .picks) waiting
 
 -- a station asks in each cycle until one grants it
-abbrev pub AsksUntilGranted : ℕ → List (Made Engine) → Type 0
+abbrev pub AsksUntilGranted : ℕ → List (Made By) → Type 0
 AsksUntilGranted w [] = Unit {0}
 AsksUntilGranted w (c ∷ cs) = (asks w c ≡ true) × (granted w c ≡ false → AsksUntilGranted w cs)
 
@@ -103,7 +108,7 @@ AsksUntilGranted w (c ∷ cs) = (asks w c ≡ true) × (granted w c ≡ false �
 -- included, unless the list ends sooner
 abbrev pub GrantedInTime : Type 0
 GrantedInTime =
-    (s : State) (calls : List (Call Engine)) (w : ℕ) (past : List (Made Engine)) (first : Made Engine) (more : List (Made Engine))
+    (s : State) (calls : List (Call By)) (w : ℕ) (past : List (Made By)) (first : Made By) (more : List (Made By))
     → served (run cycle s calls) ≡ past ++ (first ∷ more)
     → AsksUntilGranted w (first ∷ more)
     → let limit = ceiling (s .width) (s .picks) in
