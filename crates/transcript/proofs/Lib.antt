@@ -1,4 +1,3 @@
-pub mod Texts
 pub mod Zeros
 pub mod Outcomes
 pub mod Runs

@@ -7,6 +7,7 @@ use lib.Dec.{eqb}
 use lib.ListN.{length, take, getD, replicate}
 use Rattle.rules.specs.declared.Head.the-variants.{None, At}
 use Rattle.rules.specs.RoundRobin.{start}
+use Rattle.text.specs.Characters.{lineFeed, space, digit, decimal, bits}
 use Rattle.arbiter.specs.declared.Answer.{Answer}
 use Rattle.arbiter.specs.declared.State.{State}
 use Rattle.arbiter.specs.Questions as Questions
@@ -16,7 +17,6 @@ use Rattle.tree.specs.Calls as Tree
 use Rattle.token_bus.specs.Calls as Bus
 use Rattle.transcript.specs.declared.first_line.Engine.{Engine}
 use Rattle.transcript.specs.declared.first_line.Engine.the-variants.{Scan, Tree, Thermometer, TokenBus}
-use Rattle.transcript.specs.Characters.{lineFeed, space, decimal, bits, wire}
 pub mod Laws
 
 -- "It opens with no head, for B with token 0"
@@ -32,6 +32,10 @@ wellFormed Scan n line = eqb (length line) n
 wellFormed Tree n line = eqb (length line) n
 wellFormed Thermometer n line = eqb (length line) n
 wellFormed TokenBus n line = eqb (length line) (n + 2) && eqb (getD line n 0) space
+
+-- the byte that a character of a cycle line stands for: "Characters other than 0 and 1 stand for byte 2"
+unfoldable pub wire : ℕ → ℕ
+wire c = cond (eqb c (digit 0)) 0 (cond (eqb c (digit 1)) 1 2)
 
 -- a call of an engine with these requests, a grant buffer of zeros and, for the tree, a node buffer of zeros; what the grant
 -- buffer then holds. Only the bus reads the acknowledge byte

@@ -5,6 +5,7 @@ use mathlib.Core.Bool.{Bool, true, cond, _&&_, _||_}
 use mathlib.Core.List.{List, [], _∷_}
 use lib.Dec.{eqb, ltb, leb}
 use lib.ListN.{length, take, drop, getD}
+use Rattle.text.specs.Characters.{space, digit}
 use Rattle.transcript.specs.declared.first_line.Engine.the-variants.{Scan, Tree, Thermometer, TokenBus}
 use Rattle.transcript.specs.declared.first_line.Letter.{Letter}
 use Rattle.transcript.specs.declared.first_line.Letter.the-variants.{Names, Unknown}
@@ -12,7 +13,6 @@ use Rattle.transcript.specs.declared.first_line.Number.{Number}
 use Rattle.transcript.specs.declared.first_line.Number.the-variants.{Value, Malformed}
 use Rattle.transcript.specs.declared.first_line.FirstLine.{FirstLine}
 use Rattle.transcript.specs.declared.first_line.FirstLine.the-variants.{Opens, Unreadable}
-use Rattle.transcript.specs.Characters.{space, digit}
 use Rattle.transcript.specs.Lines.{place}
 pub mod Laws
 

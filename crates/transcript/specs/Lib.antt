@@ -1,6 +1,4 @@
-pub mod Characters
 pub mod Lines
 pub mod FirstLine
 pub mod Cycles
 pub mod Text
-pub mod Output

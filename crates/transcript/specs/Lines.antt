@@ -5,7 +5,7 @@ use mathlib.Core.Bool.{cond}
 use mathlib.Core.List.{List, [], _∷_}
 use lib.Dec.{eqb, leb}
 use lib.ListN.{length, take, drop, getD}
-use Rattle.transcript.specs.Characters.{lineFeed}
+use Rattle.text.specs.Characters.{lineFeed}
 pub mod Laws
 
 -- the place of the first b, or the length where there is none

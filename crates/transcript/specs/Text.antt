@@ -1,10 +1,11 @@
 -- Everything that the program `turns` prints, for any input: 01, "The program `turns`".
 -- Assumes nothing.
-use Prim.Native.Nat.{ℕ}
+use Prim.Native.Nat.{ℕ, _≤_}
+use mathlib.Core.Path.{_≡_}
 use mathlib.Core.Bool.{cond}
 use mathlib.Core.List.{List, [], _∷_, _++_}
 use lib.Dec.{eqb, leb}
-use lib.ListN.{length, drop, getD}
+use lib.ListN.{length, take, drop, getD}
 use Rattle.transcript.specs.declared.first_line.FirstLine.{FirstLine}
 use Rattle.transcript.specs.declared.first_line.FirstLine.the-variants.{Opens, Unreadable}
 use Rattle.transcript.specs.Lines.{lines}
@@ -37,3 +38,7 @@ answered ls = opened (firstLine (getD ls 0 [])) (drop 1 ls)
 -- everything: "always with the fixed first line"; 12 is asked before 11
 unfoldable pub text : List ℕ → List ℕ
 text input = heading ++ cond (leb (length input) maxInput) (answered (lines input)) (refusal 0 12 0)
+
+-- n counts bytes at the start of a buffer. The second part follows from the first; with both a caller can lend these bytes
+abbrev pub Counts : ℕ → List ℕ → Type 0
+Counts n buffer = (n ≤ length buffer) × (n ≡ length (take n buffer))

@@ -12,16 +12,15 @@ use thermometer::Thermometer;
 use token_bus::TokenBus;
 use tree::Tree;
 ghost use mathlib.Core.Path.{_≡_};
-ghost use Prim.Native.Nat.{_+_, _*_, _-_, _≤_, _<_};
+ghost use Prim.Native.Nat.{_+_, _*_, _≤_};
 ghost use mathlib.Core.Bool.{true};
 ghost use mathlib.Core.List.{map};
 ghost use lib.ListN.{length, getD, replicate};
+ghost use Rattle.text.specs.Output.{Put};
 ghost use Rattle.tree.specs.Calls as Tree·Calls;
 ghost use Rattle.arbiter.specs.Questions.{maxWidth};
-ghost use Rattle.transcript.specs.Characters as Characters;
 ghost use Rattle.transcript.specs.Cycles as Cycles;
 ghost use Rattle.transcript.specs.Lines as Lines;
-ghost use Rattle.transcript.specs.Output.{Put, Room};
 ghost use Rattle.transcript.specs.Text as Text;
 
 // How far a run has come: the state, the number of the next line, and the place of its text in the output.
@@ -54,9 +53,6 @@ pub(crate) fn print_lines(
 ) -> usize
     requires { ⌜ opened .width ≤ maxWidth ⌝ }
     requires { ⌜ length (now body) ≤ Text.maxInput ⌝ }
-    requires { ⌜ 1 ≤ from ⌝ }
-    requires { ⌜ from ≤ length (now body) + 1 ⌝ }
-    requires { ⌜ at + 21 * (length (now body) + 1 - from) ≤ length (now out) ⌝ }
     ensures { λ r. ⌜ Put (now (out .entry)) at (Cycles.run engine opened 1 (Lines.linesFrom (now (body .entry)) from)) (now (out .exit)) r ⌝ }
 {
     let mut run = Progress {
@@ -76,8 +72,7 @@ pub(crate) fn print_lines(
 // One cycle line: runs it and writes what it prints.
 fn print_line(engine: Engine, run: Progress, line: &[u8], out: &mut [u8]) -> Progress
     requires { ⌜ run .state .width ≤ maxWidth ⌝ }
-    requires { ⌜ run .number < 100000 ⌝ }
-    requires { ⌜ Room (now out) (run .at) (Cycles.printed (run .number) (Cycles.cycle engine (run .state) (now line))) ⌝ }
+    requires { ⌜ run .number ≤ Text.maxInput + 1 ⌝ }
     ensures { λ r. ⌜ Put (now (out .entry)) (run .at) (Cycles.printed (run .number) (Cycles.cycle engine (run .state) (now (line .entry)))) (now (out .exit)) (r .at) ⌝ }
     ensures { λ r. ⌜ r .state ≡ (Cycles.cycle engine (run .state) (now (line .entry))) .answer .state ⌝ }
     ensures { λ r. ⌜ r .number ≡ run .number + 1 ⌝ }
@@ -118,8 +113,8 @@ fn call(engine: Engine, s: State, line: &[u8], requests: &[u8], grants: &mut [u8
     requires { ⌜ s .width ≤ maxWidth ⌝ }
     requires { ⌜ Cycles.wellFormed engine (s .width) (now line) ≡ true ⌝ }
     requires { ⌜ now grants ≡ replicate (s .width) 0 ⌝ }
-    ensures { λ r. ⌜ r ≡ (Cycles.called engine s (now (requests .entry)) (Characters.wire (getD (now (line .entry)) (s .width + 1) 0))) .answer ⌝ }
-    ensures { λ _. ⌜ now (grants .exit) ≡ (Cycles.called engine s (now (requests .entry)) (Characters.wire (getD (now (line .entry)) (s .width + 1) 0))) .written ⌝ }
+    ensures { λ r. ⌜ r ≡ (Cycles.called engine s (now (requests .entry)) (Cycles.wire (getD (now (line .entry)) (s .width + 1) 0))) .answer ⌝ }
+    ensures { λ _. ⌜ now (grants .exit) ≡ (Cycles.called engine s (now (requests .entry)) (Cycles.wire (getD (now (line .entry)) (s .width + 1) 0))) .written ⌝ }
 {
     match engine {
         Engine::Scan => Scan(s).cycle(requests, grants),
@@ -169,7 +164,7 @@ fn is_bus_line(width: usize, line: &[u8]) -> bool
 // The bytes that the characters of the stations stand for.
 fn read_wires(line: &[u8], requests: &mut [u8])
     requires { ⌜ length (now requests) ≡ length (now line) ⌝ }
-    ensures { λ _. ⌜ now (requests .exit) ≡ map Characters.wire (now (line .entry)) ⌝ }
+    ensures { λ _. ⌜ now (requests .exit) ≡ map Cycles.wire (now (line .entry)) ⌝ }
 {
     let mut i: usize = 0;
     while i < line.len() {
@@ -180,7 +175,7 @@ fn read_wires(line: &[u8], requests: &mut [u8])
 
 // The byte that a character stands for: any but 0 and 1 for byte 2, which no call takes for a wire.
 fn wire(character: u8) -> u8
-    ensures { λ r. ⌜ r ≡ Characters.wire character ⌝ }
+    ensures { λ r. ⌜ r ≡ Cycles.wire character ⌝ }
 {
     match character {
         b'0' => 0,

@@ -8,12 +8,13 @@ use arbiter::refusal;
 use first_line::FirstLine;
 ghost use mathlib.Core.List.{_++_};
 ghost use mathlib.Core.Path.{_≡_};
-ghost use Prim.Native.Nat.{_+_, _*_, _≤_};
+ghost use Prim.Native.Nat.{_≤_};
 ghost use lib.ListN.{length, drop};
-ghost use Rattle.transcript.specs.Characters as Characters;
+ghost use Rattle.text.specs.Characters as Characters;
+ghost use Rattle.text.specs.Output.{Put};
 ghost use Rattle.transcript.specs.Lines as Lines;
-ghost use Rattle.transcript.specs.Output.{Counts, Put};
 ghost use Rattle.transcript.specs.Text as Text;
+ghost use Rattle.transcript.specs.Text.{Counts};
 
 // The longest input that is served. A longer one is refused by 12.
 pub const MAX_INPUT: usize = 65536;
@@ -29,7 +30,7 @@ pub fn run(input: &[u8], output: &mut [u8; LIMIT]) -> usize
     ensures { λ _. ⌜ now (output .exit) ≡ Text.text (now (input .entry)) ++ drop (length (Text.text (now (input .entry)))) (now (output .entry)) ⌝ }
     ensures { λ r. ⌜ Counts r (now (output .exit)) ⌝ }
 {
-    let at = output::put_all(b"line granted next\n", output, 0);
+    let at = text::put_all(b"line granted next\n", output, 0);
     if input.len() > MAX_INPUT {
         return output::put_refusal(0, refusal::INPUT_LENGTH, 0, output, at);
     }
@@ -40,7 +41,6 @@ pub fn run(input: &[u8], output: &mut [u8; LIMIT]) -> usize
 // What follows the heading, for an input without its final line feed.
 fn answer(body: &[u8], out: &mut [u8], at: usize) -> usize
     requires { ⌜ length (now body) ≤ Text.maxInput ⌝ }
-    requires { ⌜ at + 21 * Text.maxInput ≤ length (now out) ⌝ }
     ensures { λ r. ⌜ Put (now (out .entry)) at (Text.answered (Lines.split Characters.lineFeed (now (body .entry)))) (now (out .exit)) r ⌝ }
 {
     let end = lines::line_end(body, 0);

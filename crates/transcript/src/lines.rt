@@ -2,7 +2,7 @@
 ghost use mathlib.Core.Path.{_≡_};
 ghost use Prim.Native.Nat.{_+_, _≤_};
 ghost use lib.ListN.{length, drop, take};
-ghost use Rattle.transcript.specs.Characters as Characters;
+ghost use Rattle.text.specs.Characters as Characters;
 ghost use Rattle.transcript.specs.Lines as Lines;
 
 // The place of the first `byte` from `from` on, or the length where there is none.

@@ -4,10 +4,10 @@ use mathlib.Core.Path.{sym, ap}
 use native.Mathlib.Omega.{arith}
 use lib.Seq.{length-take-le}
 use borrow.Author.Needs.{needs}
+use Rattle.text.specs.Output.Laws.{same-put}
 use Rattle.arbiter.specs.declared.Answer.{Answer}
-use Rattle.transcript.specs.Cycles.Laws.{refusal-short, opening-small, opening-wide}
+use Rattle.transcript.specs.Cycles.Laws.{opening-wide}
 use Rattle.transcript.specs.Text.Laws.{unreadable, refused, runs}
-use Rattle.transcript.specs.Output.Laws.{same-put}
 use Rattle.transcript.proofs.answer.Statement.{statement}
 use Rattle.transcript.proofs.answer.Tie as tie
 
@@ -27,7 +27,7 @@ enum-told : tie.Need-enum-told
 enum-told c = search needs
 
 put-refusal-requires : tie.Need-put-refusal-requires
-put-refusal-requires c κs = record { fits = omega (arith, refusal-short 0 11 0 (omega arith) (omega arith) (omega arith), c .before .before .before .before .before .before .before .before .pre .1) }
+put-refusal-requires c κs = tt
 
 same-length : tie.Need-same-length
 same-length c = search needs
@@ -42,12 +42,7 @@ open-requires : tie.Need-open-requires
 open-requires c κs = search needs
 
 put-refusal-requires-2 : tie.Need-put-refusal-requires-2
-put-refusal-requires-2 c κs =
-    let a = c .before .before .before .«open» .result in
-    let is = c .before .before .before .«open» .ensures in
-    let f = c .before .before .before .before .before .first .given .0 in
-    let small = opening-small (f .0) (f .1 .0) (f .1 .1 .0) in
-    record { fits = omega (arith, refusal-short 0 (a .number) (a .place) (omega arith) (omega (arith, small .0, ap (λ (a : Answer). a .number) is)) (omega (arith, small .1, ap (λ (a : Answer). a .place) is)), c .before .before .before .before .before .before .before .before .before .before .before .before .pre .1) }
+put-refusal-requires-2 c κs = tt
 
 same-length-2 : tie.Need-same-length-2
 same-length-2 c = search needs
@@ -66,8 +61,7 @@ print-lines-requires c κs =
     let is = c .before .before .before .«open» .ensures in
     let f = c .before .before .before .before .before .first .given .0 in
     let wide = opening-wide (f .0) (f .1 .0) (f .1 .1 .0) in
-    let end = c .before .before .before .before .before .before .before .before .before .line-end .ensures in
-    (omega (arith, wide, ap (λ (a : Answer). a .state .width) is), (c .before .before .before .before .before .before .before .before .before .before .before .before .pre .0, (omega arith, (omega (arith, end .1), omega (arith, end .1, c .before .before .before .before .before .before .before .before .before .before .before .before .pre .0, c .before .before .before .before .before .before .before .before .before .before .before .before .pre .1)))))
+    (omega (arith, wide, ap (λ (a : Answer). a .state .width) is), c .before .before .before .before .before .before .before .before .before .before .before .before .pre)
 
 same-length-3 : tie.Need-same-length-3
 same-length-3 c = search needs

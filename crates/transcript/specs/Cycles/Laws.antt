@@ -2,7 +2,7 @@
 -- Assumes nothing.
 use Prim.Native.Nat.{ℕ, _+_, _*_, _^_, _≤_, _<_}
 use mathlib.Core.Path.{_≡_, refl, ap, _∙_}
-use mathlib.Core.Bool.{Bool, true, false, cond, _&&_}
+use mathlib.Core.Bool.{Bool, true, false, _&&_}
 use mathlib.Core.List.{List, [], _∷_, _++_, map}
 use native.Mathlib.Omega.{arith}
 use lib.Dec.{eqb, ltb, leb}
@@ -16,6 +16,8 @@ use Rattle.rules.specs.RoundRobin.{start, next}
 use Rattle.rules.specs.RoundRobin.Laws as Rule
 use Rattle.rules.specs.Bus as BusNext
 use Rattle.rules.specs.Bus.Laws as BusRule
+use Rattle.text.specs.Characters.{lineFeed, space, decimal, bit, bits}
+use Rattle.text.specs.Characters.Laws.{decimal-few}
 use Rattle.arbiter.specs.declared.Answer.{Answer}
 use Rattle.arbiter.specs.declared.State.{State}
 use Rattle.arbiter.specs.declared.question.Verdict.{Verdict}
@@ -34,9 +36,8 @@ use Rattle.token_bus.specs.Calls as Bus
 use Rattle.token_bus.specs.Calls.Laws as BusLaws
 use Rattle.transcript.specs.declared.first_line.Engine.{Engine}
 use Rattle.transcript.specs.declared.first_line.Engine.the-variants.{Scan, Tree, Thermometer, TokenBus}
-use Rattle.transcript.specs.Characters.{lineFeed, space, digit, decimal, bits, wire}
-use Rattle.transcript.specs.Characters.Laws.{decimal-few}
-use Rattle.transcript.specs.Cycles.{opening, wellFormed, called, cycle, refusedWord, refusal, granted, printed}
+use Rattle.transcript.specs.Lines.Laws.{totalLength}
+use Rattle.transcript.specs.Cycles.{opening, wellFormed, wire, called, cycle, refusedWord, refusal, granted, printed, run}
 
 -- a verdict whose number has two digits at most, and whose place is within bounds
 record Small (most : ℕ) (v : Verdict) : Type 0 where
@@ -296,11 +297,11 @@ granted-short k grants next a b =
     let one = length-append (decimal k) ((space ∷ []) ++ (bits grants ++ ((space ∷ []) ++ (decimal next ++ (lineFeed ∷ []))))) in
     let two = length-append (bits grants) ((space ∷ []) ++ (decimal next ++ (lineFeed ∷ []))) in
     let three = length-append (decimal next) (lineFeed ∷ []) in
-    let shown = length-map grants (λ (b : ℕ). cond (eqb b 1) (digit 1) (digit 0)) in
+    let shown = length-map grants bit in
     omega (arith, decimal-few 4 k a, decimal-few 2 next b)
 
 -- what a cycle line prints is at most 21 times as long as the line with its line feed
-pub printed-short : (e : Engine) (s : State) (line : List ℕ) (k : ℕ) → s .width ≤ Questions.maxWidth → k < 100000
+printed-short : (e : Engine) (s : State) (line : List ℕ) (k : ℕ) → s .width ≤ Questions.maxWidth → k < 100000
     → length (printed k (cycle e s line)) ≤ 21 * (1 + length line)
 printed-short e s line k most few =
     let o = cycle e s line in
@@ -313,6 +314,17 @@ printed-short e s line k most few =
     (λ f.
     let short = refusal-short k (o .answer .number) (o .answer .place) few (p .number) (omega (arith, p .place)) in
     omega (arith, ap length (printed-refused k o (eqb-false (o .answer .number) 0 f)), short))
+
+-- what lines print is at most 21 times as long as they are with their line feeds, where their numbers have five digits at most
+pub run-short : (e : Engine) (s : State) (k : ℕ) (ls : List (List ℕ)) → s .width ≤ Questions.maxWidth → k + length ls ≤ 100000
+    → length (run e s k ls) ≤ 21 * totalLength ls
+unfolding run
+run-short e s k [] wide few = omega arith
+run-short e s k (line ∷ ls) wide few =
+    let o = cycle e s line in
+    let short = printed-short e s line k wide (omega arith) in
+    let rest = run-short e (o .answer .state) (k + 1) ls (omega (arith, cycle-width e s line)) (omega arith) in
+    omega (arith, length-append (printed k o) (run e (o .answer .state) (k + 1) ls))
 
 -- an opening: its numbers, and the width of the state that it makes
 opened-small : (v : Verdict) (s : State) → Small 0 v → ((Answers.opened v s) .number < 100) × ((Answers.opened v s) .place ≤ 0)

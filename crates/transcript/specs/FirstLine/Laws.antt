@@ -11,12 +11,12 @@ use lib.ListN.{length, take, drop, getD, length-drop}
 use lib.Seq.{drop-cons, drop-drop, take-all}
 use borrow.Author.Tests.{eq-eqb, ne-eqb, lt-ltb, le-ltb, le-leb, lt-leb}
 use Rattle.rules.specs.Lists.Laws as Lists
+use Rattle.text.specs.Characters.{space, digit}
 use Rattle.transcript.specs.declared.first_line.Number.{Number}
 use Rattle.transcript.specs.declared.first_line.Number.the-variants.{Value, Malformed}
 use Rattle.transcript.specs.declared.first_line.Letter.{Letter}
 use Rattle.transcript.specs.declared.first_line.FirstLine.{FirstLine}
 use Rattle.transcript.specs.declared.first_line.FirstLine.the-variants.{Unreadable}
-use Rattle.transcript.specs.Characters.{space, digit}
 use Rattle.transcript.specs.Lines.{place}
 use Rattle.transcript.specs.FirstLine.{letter, isDigit, allDigits, value, wellFormed, number, opens, firstLine}
 

@@ -6,11 +6,11 @@ use mathlib.Core.Bool.{cond}
 use mathlib.Core.List.{List, [], _∷_}
 use native.Mathlib.Omega.{arith}
 use lib.Dec.{eqb, ltb}
-use lib.ListN.{length, take, drop, getD, length-drop}
+use lib.ListN.{length, take, drop, getD, length-take, length-drop}
 use lib.Seq.{drop-cons, drop-drop, take-length}
 use borrow.Author.Tests.{eq-eqb, ne-eqb, lt-ltb, le-ltb, le-leb, lt-leb, ltb-true, ltb-false}
 use Rattle.rules.specs.Lists.Laws as Lists
-use Rattle.transcript.specs.Characters.{lineFeed}
+use Rattle.text.specs.Characters.{lineFeed}
 use Rattle.transcript.specs.Lines.{place, onFirst, split, unended, linesFrom}
 
 -- the first b from i on, where b is there
@@ -24,7 +24,7 @@ pub place-next : (b : ℕ) (xs : List ℕ) (i : ℕ) → i < length xs → (getD
 unfolding place
 place-next b xs i l n = rw (drop-cons xs i 0 l, ne-eqb (getD xs i 0) b n)
 
-pub place-le : (b : ℕ) (xs : List ℕ) → place b xs ≤ length xs
+place-le : (b : ℕ) (xs : List ℕ) → place b xs ≤ length xs
 unfolding place
 place-le b [] = omega arith
 place-le b (x ∷ xs) = Lists.split (eqb x b) (λ t. rw t (omega arith)) (λ f. rw f (omega (arith, place-le b xs)))
@@ -102,3 +102,36 @@ unended-whole input n = rw (ne-eqb (getD input (length input - 1) 0) lineFeed n)
 pub unended-none : (input : List ℕ) → length input ≡ 0 → take (length input) input ≡ unended input
 unended-none [] e = unended-whole [] (λ e. absurd (omega arith))
 unended-none (x ∷ xs) e = absurd (omega arith)
+
+pub unended-short : (input : List ℕ) → length (unended input) ≤ length input
+unfolding unended
+unended-short input =
+    Lists.split (eqb (getD input (length input - 1) 0) lineFeed)
+    (λ t. rw t (omega (arith, length-take (length input - 1) input)))
+    (λ f. rw f (omega arith))
+
+-- how many characters lines have, each with its line feed
+abbrev pub totalLength : List (List ℕ) → ℕ
+totalLength [] = 0
+totalLength (line ∷ ls) = 1 + length line + totalLength ls
+
+on-first-total : (x : ℕ) (ls : List (List ℕ)) → totalLength (onFirst x ls) ≤ 1 + totalLength ls
+on-first-total x [] = omega arith
+on-first-total x (line ∷ ls) = omega arith
+
+pub split-total : (b : ℕ) (xs : List ℕ) → totalLength (split b xs) ≤ 1 + length xs
+unfolding split
+split-total b [] = omega arith
+split-total b (x ∷ xs) =
+    Lists.split (eqb x b)
+    (λ t. rw t (omega (arith, split-total b xs)))
+    (λ f. rw f (omega (arith, split-total b xs, on-first-total x (split b xs))))
+
+-- all but the first
+pub rest-total : (ls : List (List ℕ)) → totalLength (drop 1 ls) ≤ totalLength ls - 1
+rest-total [] = omega arith
+rest-total (line ∷ ls) = omega arith
+
+pub lines-few : (ls : List (List ℕ)) → length ls ≤ totalLength ls
+lines-few [] = omega arith
+lines-few (line ∷ ls) = omega (arith, lines-few ls)

@@ -4,11 +4,11 @@
 -- Assumes nothing.
 use mathlib.Core.Path.{_≡_, refl}
 use mathlib.Core.List.{[], _∷_, _++_}
+use Rattle.text.specs.Characters.{digits, decimal}
 use Rattle.arbiter.specs.Questions.{_then_}
 use Rattle.arbiter.specs.Answers.{ifPassed}
 use Rattle.transcript.specs.declared.first_line.Engine.the-variants.{Scan, Tree, Thermometer, TokenBus}
 use Rattle.transcript.specs.declared.first_line.FirstLine.the-variants.{Opens, Unreadable}
-use Rattle.transcript.specs.Characters.{digits, decimal}
 use Rattle.transcript.specs.Lines.{place, split, unended, lines}
 use Rattle.transcript.specs.FirstLine.{wellFormed, number, firstLine}
 use Rattle.transcript.specs.Cycles.{cycle, refusal, granted, printed, run}

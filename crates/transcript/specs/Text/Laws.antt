@@ -1,19 +1,23 @@
--- What follows the heading, told by the first line that was read.
+-- What follows the heading, told by the first line that was read, and how long the text is.
 -- Assumes nothing.
-use Prim.Native.Nat.{ℕ, _+_, _≤_, _<_}
-use mathlib.Core.Path.{_≡_, _∙_}
-use mathlib.Core.List.{List, _++_}
-use lib.ListN.{length, take}
-use borrow.Author.Tests.{eq-eqb, ne-eqb, le-leb, lt-leb}
+use Prim.Native.Nat.{ℕ, _+_, _*_, _≤_, _<_}
+use mathlib.Core.Path.{_≡_, ap, _∙_}
+use mathlib.Core.List.{List, [], _++_}
+use native.Mathlib.Omega.{arith}
+use lib.Dec.{eqb, leb}
+use lib.ListN.{length, take, drop, getD, length-append}
+use borrow.Author.Tests.{eq-eqb, ne-eqb, le-leb, lt-leb, leb-true, leb-false}
+use Rattle.rules.specs.Lists.Laws as Lists
+use Rattle.text.specs.Characters.{lineFeed}
 use Rattle.arbiter.specs.declared.Answer.{Answer}
 use Rattle.transcript.specs.declared.first_line.Engine.{Engine}
 use Rattle.transcript.specs.declared.first_line.FirstLine.{FirstLine}
 use Rattle.transcript.specs.declared.first_line.FirstLine.the-variants.{Opens, Unreadable}
-use Rattle.transcript.specs.Characters.{lineFeed}
 use Rattle.transcript.specs.Lines.{place, split, unended, linesFrom}
-use Rattle.transcript.specs.Lines.Laws.{lines-first}
+use Rattle.transcript.specs.Lines.Laws.{lines-first, unended-short, totalLength, split-total, rest-total, lines-few}
 use Rattle.transcript.specs.FirstLine.{firstLine}
 use Rattle.transcript.specs.Cycles.{opening, refusal, run}
+use Rattle.transcript.specs.Cycles.Laws.{refusal-short, run-short, opening-small, opening-wide}
 use Rattle.transcript.specs.Text.{heading, maxInput, opened, answered, text}
 
 -- what follows the heading, for an input without its final line feed
@@ -46,3 +50,33 @@ text-refused input l = rw (lt-leb (length input) maxInput l)
 pub text-follows : (input : List ℕ) → length input ≤ maxInput → text input ≡ heading ++ follows (unended input)
 unfolding text
 text-follows input l = rw (le-leb (length input) maxInput l)
+
+-- how long it is: what follows the heading is at most 21 times as long as the longest input
+opened-short : (first : FirstLine) (ls : List (List ℕ)) → totalLength ls ≤ maxInput → length (opened first ls) ≤ 21 * maxInput
+unfolding opened
+opened-short Unreadable ls l = omega (arith, refusal-short 0 11 0 (omega arith) (omega arith) (omega arith))
+opened-short (Opens e n m) ls l =
+    let a = opening e n m in
+    let small = opening-small e n m in
+    let few = lines-few ls in
+    Lists.split (eqb (a .number) 0)
+    (λ t. rw t (omega (arith, run-short e (a .state) 1 ls (opening-wide e n m) (omega arith))))
+    (λ f. rw f (omega (arith, refusal-short 0 (a .number) (a .place) (omega arith) (small .0) (omega arith))))
+
+follows-short : (body : List ℕ) → length body ≤ maxInput → length (follows body) ≤ 21 * maxInput
+follows-short body l =
+    let ls = split lineFeed body in
+    opened-short (firstLine (getD ls 0 [])) (drop 1 ls) (omega (arith, split-total lineFeed body, rest-total ls))
+
+-- no text is longer than the heading and 21 bytes for each byte of the longest input
+pub text-fits : (input : List ℕ) → length (text input) ≤ 1376274
+text-fits input =
+    Lists.split (leb (length input) maxInput)
+    (λ t.
+    let l = leb-true (length input) maxInput t in
+    let short = follows-short (unended input) (omega (arith, unended-short input)) in
+    omega (arith, simp length-append at (ap length (text-follows input l))))
+    (λ f.
+    let l = leb-false (length input) maxInput f in
+    let short = refusal-short 0 12 0 (omega arith) (omega arith) (omega arith) in
+    omega (arith, ap length (text-refused input l)))

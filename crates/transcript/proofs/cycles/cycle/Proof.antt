@@ -9,8 +9,7 @@ use lib.Seq.{length-take-le}
 use borrow.Author.Needs.{needs}
 use Rattle.arbiter.specs.declared.State.{State}
 use Rattle.transcript.specs.declared.first_line.Engine.{Engine}
-use Rattle.transcript.specs.Characters.{wire}
-use Rattle.transcript.specs.Cycles.{wellFormed, called}
+use Rattle.transcript.specs.Cycles.{wellFormed, wire, called}
 use Rattle.transcript.specs.Cycles.Laws.{formed-long, cycle-called, cycle-refused}
 use Rattle.transcript.proofs.cycles.cycle.Statement.{statement}
 use Rattle.transcript.proofs.Zeros.{front-length, again, again-fits, again-length}

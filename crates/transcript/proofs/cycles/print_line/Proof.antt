@@ -6,13 +6,13 @@ use mathlib.Core.List.{List}
 use lib.ListN.{length}
 use borrow.Author.Needs.{needs}
 use Rattle.rules.specs.RoundRobin.{start}
+use Rattle.text.specs.Output.Laws.{same-put}
 use Rattle.arbiter.specs.declared.Answer.{Answer}
 use Rattle.arbiter.specs.declared.State.{State}
 use Rattle.arbiter.specs.Answers.{Outcome}
 use Rattle.transcript.specs.declared.first_line.Engine.{Engine}
 use Rattle.transcript.specs.Cycles.{cycle, refusal, granted, printed}
 use Rattle.transcript.specs.Cycles.Laws.{cycle-printable, printed-refused, printed-granted}
-use Rattle.transcript.specs.Output.Laws.{same-room, same-put}
 use Rattle.transcript.proofs.cycles.print_line.Statement.{statement}
 use Rattle.transcript.proofs.Zeros.{front-zeros, front-length, again, again-fits, again-length}
 use Rattle.transcript.proofs.cycles.print_line.Tie as tie
@@ -43,9 +43,7 @@ add-number : tie.Need-add-number
 add-number c = search needs
 
 put-refusal-requires : tie.Need-put-refusal-requires
-put-refusal-requires c κs =
-    let a = c .before .before .before .before .before .before .before .before .before .before .before .args in
-    same-room (refused-text (a .run .number) (cycle (a .engine) (a .run .state) (a .line .now)) (c .before .before .before .before .before .before .cycle .ensures .0) (c .before .if1 .taken)) (c .before .before .before .before .before .before .before .before .before .before .before .pre .1 .1)
+put-refusal-requires c κs = tt
 
 same-length : tie.Need-same-length
 same-length c = search needs
@@ -71,13 +69,7 @@ slice-aggregate-put-granted c =
     again-length 256 (c .before .before .before .before .before .before .before .cycle .last .1 .1 .1 .0) (written-length (a .engine) (a .run .state) (a .line .now) (c .before .before .before .before .before .before .before .cycle .ensures .1))
 
 put-granted-requires : tie.Need-put-granted-requires
-put-granted-requires c κs =
-    let a = c .before .before .before .before .before .before .before .before .before .before .before .before .before .args in
-    let o = c .before .before .before .before .before .before .before .before .cycle .ensures in
-    let part = again 256 (c .before .before .before .before .before .before .before .before .cycle .last .1 .1 .1 .0) (written-length (a .engine) (a .run .state) (a .line .now) (o .1)) in
-    same-room
-    (granted-text (a .run .number) (cycle (a .engine) (a .run .state) (a .line .now)) (o .0) (part ∙ o .1) (c .before .before .first-station .ensures) (c .before .before .before .if1 .left))
-    (c .before .before .before .before .before .before .before .before .before .before .before .before .before .pre .1 .1)
+put-granted-requires c κs = tt
 
 same-length-2 : tie.Need-same-length-2
 same-length-2 c = search needs

@@ -3,10 +3,11 @@
 use Prim.Native.Nat.{_-_, _+_}
 use native.Mathlib.Omega.{arith}
 use lib.ListN.{length}
+use Rattle.text.specs.Output.Laws.{put-length}
 use Rattle.transcript.specs.Lines.{linesFrom}
 use Rattle.transcript.specs.Cycles as Cycles
 use Rattle.transcript.proofs.cycles.print_lines.Statement.{statement}
-use Rattle.transcript.proofs.Runs.{Ran, none-ran, all-ran, few, line-fits, one-ran}
+use Rattle.transcript.proofs.Runs.{Ran, none-ran, all-ran, one-ran}
 use Rattle.transcript.proofs.cycles.print_lines.Tie as tie
 
 abbrev Inv-loop : tie.InvT-loop
@@ -16,9 +17,7 @@ abbrev μ-loop : tie.MeasureT-loop
 μ-loop engine body from out₀ at run₀ start₀ out run start = length body + 1 - start
 
 loop-holds : tie.Need-loop-holds Inv-loop μ-loop
-loop-holds c =
-    let p = c .before .before .pre in
-    none-ran _ _ _ _ _ _ (p .0) (p .1 .1 .0) (p .1 .1 .1 .0) (p .1 .1 .1 .1)
+loop-holds c = none-ran _ _ _ _ _ _ (c .before .before .pre .0)
 
 line-end-requires : tie.Need-line-end-requires Inv-loop μ-loop
 line-end-requires c κs = c .loop-test .taken
@@ -35,10 +34,7 @@ part-print-line-end c = omega (arith, c .line-end .ensures .1)
 print-line-requires : tie.Need-print-line-requires Inv-loop μ-loop
 print-line-requires c κs =
     let r = c .before .before .before .before .loop .inv in
-    let end = c .before .before .line-end .result in
-    let is = c .before .before .line-end .ensures .0 in
-    let small = c .before .before .before .before .before .before .before .pre .1 .0 in
-    (r .wide, (few _ _ _ _ r end (c .before .before .before .loop-test .taken) small is, line-fits _ _ _ _ r end (c .before .before .before .loop-test .taken) small is))
+    (r .wide, omega (arith, r .numbered, c .before .before .before .loop-test .taken, c .before .before .before .before .before .before .before .pre .1))
 
 add-start : tie.Need-add-start Inv-loop μ-loop
 add-start c = omega (arith, c .before .before .before .before .before .line-end .ensures .1)
@@ -49,10 +45,10 @@ loop-less c = omega (arith, c .before .before .before .before .before .line-end 
 loop-again : tie.Need-loop-again Inv-loop μ-loop
 loop-again c =
     let p = c .before .before .print-line .ensures in
-    one-ran _ _ _ _ (c .before .before .before .before .before .before .before .loop .inv) (c .before .before .before .before .before .line-end .result) (c .before .before .before .before .before .before .loop-test .taken) (c .before .before .before .before .before .before .before .before .before .before .pre .1 .0) (c .before .before .before .before .before .line-end .ensures .0) (p .0) (p .1 .0) (p .1 .1)
+    one-ran _ _ _ _ (c .before .before .before .before .before .before .before .loop .inv) (c .before .before .before .before .before .line-end .result) (c .before .before .before .before .before .before .loop-test .taken) (c .before .before .before .before .before .line-end .ensures .0) (p .0) (p .1 .0) (p .1 .1)
 
 same-length : tie.Need-same-length Inv-loop μ-loop
-same-length c = c .before .loop .inv .finishes .same
+same-length c = put-length (c .before .loop .inv .put)
 
 returns : tie.Need-returns Inv-loop μ-loop
 returns c = all-ran _ _ _ _ (c .before .loop .inv) (c .loop-test .left)

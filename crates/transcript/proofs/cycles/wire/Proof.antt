@@ -1,7 +1,7 @@
 -- `transcript::cycles::wire` meets its contract.
 -- Assumes nothing.
 use borrow.Author.Tests.{ne-eqb}
-use Rattle.transcript.specs.Characters.{wire}
+use Rattle.transcript.specs.Cycles.{wire}
 use Rattle.transcript.proofs.cycles.wire.Statement.{statement}
 use Rattle.transcript.proofs.cycles.wire.Tie as tie
 

@@ -1,42 +1,28 @@
 -- `transcript::output::put_granted` meets its contract: six texts, one after the other.
 -- Assumes nothing.
-use mathlib.Core.List.{[], _∷_}
 use borrow.Author.Needs.{needs}
-use Rattle.transcript.specs.Characters.{lineFeed, space, decimal, bits}
+use Rattle.text.specs.Output.Laws.{put-then}
 use Rattle.transcript.specs.Cycles.{granted}
-use Rattle.transcript.specs.Output.Laws.{first-fits, second-fits, third-fits, fourth-fits, fifth-fits, last-fits, put-six}
 use Rattle.transcript.proofs.output.put_granted.Statement.{statement}
 use Rattle.transcript.proofs.output.put_granted.Tie as tie
 
 put-number-requires : tie.Need-put-number-requires
-unfolding granted
-put-number-requires c κs =
-    first-fits (decimal (c .before .before .before .args .line)) (space ∷ []) (bits (c .before .before .before .args .grants .now)) (space ∷ []) (decimal (c .before .before .before .args .next)) (lineFeed ∷ []) (c .before .before .before .pre)
+put-number-requires c κs = tt
 
 put-requires : tie.Need-put-requires
-unfolding granted
-put-requires c κs =
-    second-fits (decimal (c .before .before .before .before .before .before .before .args .line)) (space ∷ []) (bits (c .before .before .before .before .before .before .before .args .grants .now)) (space ∷ []) (decimal (c .before .before .before .before .before .before .before .args .next)) (lineFeed ∷ []) (c .before .before .before .before .before .before .before .pre) (c .before .before .before .put-number .ensures)
+put-requires c κs = tt
 
 put-bits-requires : tie.Need-put-bits-requires
-unfolding granted
-put-bits-requires c κs =
-    third-fits (decimal (c .before .before .before .before .before .before .before .before .before .before .before .args .line)) (space ∷ []) (bits (c .before .before .before .before .before .before .before .before .before .before .before .args .grants .now)) (space ∷ []) (decimal (c .before .before .before .before .before .before .before .before .before .before .before .args .next)) (lineFeed ∷ []) (c .before .before .before .before .before .before .before .before .before .before .before .pre) (c .before .before .before .before .before .before .before .put-number .ensures) (c .before .before .before .put .ensures)
+put-bits-requires c κs = tt
 
 put-requires-2 : tie.Need-put-requires-2
-unfolding granted
-put-requires-2 c κs =
-    fourth-fits (decimal (c .before .before .before .before .before .before .before .before .before .before .before .before .before .before .before .args .line)) (space ∷ []) (bits (c .before .before .before .before .before .before .before .before .before .before .before .before .before .before .before .args .grants .now)) (space ∷ []) (decimal (c .before .before .before .before .before .before .before .before .before .before .before .before .before .before .before .args .next)) (lineFeed ∷ []) (c .before .before .before .before .before .before .before .before .before .before .before .before .before .before .before .pre) (c .before .before .before .before .before .before .before .before .before .before .before .put-number .ensures) (c .before .before .before .before .before .before .before .put .ensures) (c .before .before .before .put-bits .ensures)
+put-requires-2 c κs = tt
 
 put-number-requires-2 : tie.Need-put-number-requires-2
-unfolding granted
-put-number-requires-2 c κs =
-    fifth-fits (decimal (c .before .before .before .before .before .before .before .before .before .before .before .before .before .before .before .before .before .before .before .args .line)) (space ∷ []) (bits (c .before .before .before .before .before .before .before .before .before .before .before .before .before .before .before .before .before .before .before .args .grants .now)) (space ∷ []) (decimal (c .before .before .before .before .before .before .before .before .before .before .before .before .before .before .before .before .before .before .before .args .next)) (lineFeed ∷ []) (c .before .before .before .before .before .before .before .before .before .before .before .before .before .before .before .before .before .before .before .pre) (c .before .before .before .before .before .before .before .before .before .before .before .before .before .before .before .put-number .ensures) (c .before .before .before .before .before .before .before .before .before .before .before .put .ensures) (c .before .before .before .before .before .before .before .put-bits .ensures) (c .before .before .before .put2 .ensures)
+put-number-requires-2 c κs = tt
 
 put-requires-3 : tie.Need-put-requires-3
-unfolding granted
-put-requires-3 c κs =
-    last-fits (decimal (c .before .before .before .before .before .before .before .before .before .before .before .before .before .before .before .before .before .before .before .before .before .before .before .args .line)) (space ∷ []) (bits (c .before .before .before .before .before .before .before .before .before .before .before .before .before .before .before .before .before .before .before .before .before .before .before .args .grants .now)) (space ∷ []) (decimal (c .before .before .before .before .before .before .before .before .before .before .before .before .before .before .before .before .before .before .before .before .before .before .before .args .next)) (lineFeed ∷ []) (c .before .before .before .before .before .before .before .before .before .before .before .before .before .before .before .before .before .before .before .before .before .before .before .pre) (c .before .before .before .before .before .before .before .before .before .before .before .before .before .before .before .before .before .before .before .put-number .ensures) (c .before .before .before .before .before .before .before .before .before .before .before .before .before .before .before .put .ensures) (c .before .before .before .before .before .before .before .before .before .before .before .put-bits .ensures) (c .before .before .before .before .before .before .before .put2 .ensures) (c .before .before .before .put-number2 .ensures)
+put-requires-3 c κs = tt
 
 same-length : tie.Need-same-length
 same-length c = search needs
@@ -44,7 +30,11 @@ same-length c = search needs
 returns : tie.Need-returns
 unfolding granted
 returns c =
-    put-six (decimal (c .before .before .before .before .before .before .before .before .before .before .before .before .before .before .before .before .before .before .before .before .before .before .before .before .before .before .args .line)) (space ∷ []) (bits (c .before .before .before .before .before .before .before .before .before .before .before .before .before .before .before .before .before .before .before .before .before .before .before .before .before .before .args .grants .now)) (space ∷ []) (decimal (c .before .before .before .before .before .before .before .before .before .before .before .before .before .before .before .before .before .before .before .before .before .before .before .before .before .before .args .next)) (lineFeed ∷ []) (c .before .before .before .before .before .before .before .before .before .before .before .before .before .before .before .before .before .before .before .before .before .before .before .before .before .before .pre) (c .before .before .before .before .before .before .before .before .before .before .before .before .before .before .before .before .before .before .before .before .before .before .put-number .ensures) (c .before .before .before .before .before .before .before .before .before .before .before .before .before .before .before .before .before .before .put .ensures) (c .before .before .before .before .before .before .before .before .before .before .before .before .before .before .put-bits .ensures) (c .before .before .before .before .before .before .before .before .before .before .put2 .ensures) (c .before .before .before .before .before .before .put-number2 .ensures) (c .before .before .put3 .ensures)
+    put-then (c .before .before .before .before .before .before .before .before .before .before .before .before .before .before .before .before .before .before .before .before .before .before .put-number .ensures)
+    (put-then (c .before .before .before .before .before .before .before .before .before .before .before .before .before .before .before .before .before .before .put .ensures)
+    (put-then (c .before .before .before .before .before .before .before .before .before .before .before .before .before .before .put-bits .ensures)
+    (put-then (c .before .before .before .before .before .before .before .before .before .before .put2 .ensures)
+    (put-then (c .before .before .before .before .before .before .put-number2 .ensures) (c .before .before .put3 .ensures)))))
 
 pub put-granted-spec : {M : Type 1} → statement M
 put-granted-spec =

@@ -1,4 +1,4 @@
--- The characters of the program `turns`. A character is a byte.
+-- Characters, and numbers as text. A character is a byte.
 -- Assumes nothing.
 use Prim.Native.Nat.{ℕ, zero, suc, _+_, _/_, _%_}
 use mathlib.Core.Bool.{cond}
@@ -26,10 +26,10 @@ digits (suc most) n = cond (ltb n 10) (digit n ∷ []) (digits most (n / 10) ++ 
 unfoldable pub decimal : ℕ → List ℕ
 decimal n = digits (suc n) n
 
--- grant bytes as text: "the grants as N characters 0 or 1"
-abbrev pub bits : List ℕ → List ℕ
-bits bytes = map (λ b. cond (eqb b 1) (digit 1) (digit 0)) bytes
+-- the character of a bit: 1 for the byte 1, and 0 for any other
+abbrev pub bit : ℕ → ℕ
+bit byte = cond (eqb byte 1) (digit 1) (digit 0)
 
--- the byte that a character of a cycle line stands for: "Characters other than 0 and 1 stand for byte 2"
-unfoldable pub wire : ℕ → ℕ
-wire c = cond (eqb c (digit 0)) 0 (cond (eqb c (digit 1)) 1 2)
+-- bits as text
+abbrev pub bits : List ℕ → List ℕ
+bits bytes = map bit bytes

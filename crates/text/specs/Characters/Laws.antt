@@ -9,7 +9,7 @@ use lib.Dec.{ltb}
 use lib.ListN.{length, length-append}
 use borrow.Author.Tests.{lt-ltb, le-ltb, ltb-false}
 use Rattle.rules.specs.Lists.Laws as Lists
-use Rattle.transcript.specs.Characters.{digit, digits, decimal}
+use Rattle.text.specs.Characters.{digit, digits, decimal}
 
 tenth : (n : ℕ) → 10 ≤ n → n / 10 < n
 tenth n l = omega arith
