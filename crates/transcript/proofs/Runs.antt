@@ -10,7 +10,7 @@ use Rattle.text.specs.Output.{Put}
 use Rattle.text.specs.Output.Laws.{same-put, put-none, put-then}
 use Rattle.arbiter.specs.declared.State.{State}
 use Rattle.arbiter.specs.Questions.{maxWidth}
-use Rattle.transcript.specs.declared.first_line.Engine.{Engine}
+use Rattle.transcript.specs.declared.first_line.Kind.{Kind}
 use Rattle.transcript.specs.declared.cycles.Progress.{Progress}
 use Rattle.transcript.specs.Lines.{place, linesFrom}
 use Rattle.transcript.specs.Lines.Laws.{lines-next, lines-end}
@@ -19,14 +19,14 @@ use Rattle.transcript.specs.Cycles.Laws.{cycle-width}
 
 -- the lines before `start` are printed, into a buffer that held `former`, from `at` on: `whole` is all that is to be printed, and
 -- `done` is what has been
-pub record Ran (e : Engine) (body former : List ℕ) (at : ℕ) (whole : List ℕ) (p : Progress) (buffer : List ℕ) (start : ℕ) : Type 0 where
+pub record Ran (e : Kind) (body former : List ℕ) (at : ℕ) (whole : List ℕ) (p : Progress) (buffer : List ℕ) (start : ℕ) : Type 0 where
   pub wide : p .state .width ≤ maxWidth
   pub numbered : p .number ≤ start + 1
   pub done : List ℕ
   pub put : Put former at done buffer (p .at)
   pub rest : done ++ run e (p .state) (p .number) (linesFrom body start) ≡ whole
 
-module _ (e : Engine) (body former : List ℕ) (at : ℕ) where
+module _ (e : Kind) (body former : List ℕ) (at : ℕ) where
   pub none-ran : (opened : State) (from : ℕ) → opened .width ≤ maxWidth
       → Ran e body former at (run e opened 1 (linesFrom body from)) (record { state = opened; number = 1; at = at }) former from
   none-ran opened from wide =

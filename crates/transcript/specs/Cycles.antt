@@ -12,43 +12,36 @@ use Rattle.arbiter.specs.declared.Answer.{Answer}
 use Rattle.arbiter.specs.declared.State.{State}
 use Rattle.arbiter.specs.Questions as Questions
 use Rattle.arbiter.specs.Answers.{Outcome, refused}
-use Rattle.arbiter.specs.Cycle as RoundRobin
-use Rattle.tree.specs.Calls as Tree
+use Rattle.engines.specs.Calls as Engines
 use Rattle.token_bus.specs.Calls as Bus
-use Rattle.transcript.specs.declared.first_line.Engine.{Engine}
-use Rattle.transcript.specs.declared.first_line.Engine.the-variants.{Scan, Tree, Thermometer, TokenBus}
+use Rattle.transcript.specs.declared.first_line.Kind.{Kind}
+use Rattle.transcript.specs.declared.first_line.Kind.the-variants.{RoundRobin, TokenBus}
 pub mod Laws
 
 -- "It opens with no head, for B with token 0"
-abbrev pub opening : Engine → ℕ → ℕ → Answer
-opening Scan n m = RoundRobin.opening n m None
-opening Tree n m = Tree.opening n m None
-opening Thermometer n m = RoundRobin.opening n m None
+abbrev pub opening : Kind → ℕ → ℕ → Answer
+opening (RoundRobin e) n m = Engines.opening e n m None
 opening TokenBus n m = Bus.opening n m (At 0)
 
 -- a line that question 5 lets pass: "a cycle of N characters"; "For B a space and one acknowledge character follow"
-abbrev pub wellFormed : Engine → ℕ → List ℕ → Bool
-wellFormed Scan n line = eqb (length line) n
-wellFormed Tree n line = eqb (length line) n
-wellFormed Thermometer n line = eqb (length line) n
+abbrev pub wellFormed : Kind → ℕ → List ℕ → Bool
+wellFormed (RoundRobin e) n line = eqb (length line) n
 wellFormed TokenBus n line = eqb (length line) (n + 2) && eqb (getD line n 0) space
 
 -- the byte that a character of a cycle line stands for: "Characters other than 0 and 1 stand for byte 2"
 unfoldable pub wire : ℕ → ℕ
 wire c = cond (eqb c (digit 0)) 0 (cond (eqb c (digit 1)) 1 2)
 
--- a call of an engine with these requests, a grant buffer of zeros and, for the tree, a node buffer of zeros; what the grant
--- buffer then holds. Only the bus reads the acknowledge byte
-abbrev pub called : Engine → State → List ℕ → ℕ → Outcome
-called Scan s requests byte = RoundRobin.cycle s requests (replicate (s .width) 0)
-called Tree s requests byte =
-    let o = Tree.cycle s requests (replicate (s .width) 0) (replicate (2 * s .width) 0) in
+-- a call with these requests, a grant buffer of zeros and, for the engines, a node buffer of zeros; what the grant buffer then
+-- holds. Only the bus reads the acknowledge byte
+abbrev pub called : Kind → State → List ℕ → ℕ → Outcome
+called (RoundRobin e) s requests byte =
+    let o = Engines.cycle e s requests (replicate (s .width) 0) (replicate (2 * s .width) 0) in
     record { answer = o .answer; written = o .grants }
-called Thermometer s requests byte = RoundRobin.cycle s requests (replicate (s .width) 0)
 called TokenBus s requests byte = Bus.cycle s requests (replicate (s .width) 0) byte
 
 -- a cycle line: the characters of the stations are the requests, and for B the last one is the acknowledge byte
-unfoldable pub cycle : Engine → State → List ℕ → Outcome
+unfoldable pub cycle : Kind → State → List ℕ → Outcome
 cycle e s line =
     cond (wellFormed e (s .width) line)
     (called e s (map wire (take (s .width) line)) (wire (getD line (s .width + 1) 0)))
@@ -74,6 +67,6 @@ printed k o =
     (refusal k (o .answer .number) (o .answer .place))
 
 -- what the cycle lines from the k-th on print: "the run goes on with the old state" after a refused one, which its answer has
-unfoldable pub run : Engine → State → ℕ → List (List ℕ) → List ℕ
+unfoldable pub run : Kind → State → ℕ → List (List ℕ) → List ℕ
 run e s k [] = []
 run e s k (line ∷ lines) = printed k (cycle e s line) ++ run e ((cycle e s line) .answer .state) (k + 1) lines

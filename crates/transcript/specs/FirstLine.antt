@@ -6,7 +6,8 @@ use mathlib.Core.List.{List, [], _∷_}
 use lib.Dec.{eqb, ltb, leb}
 use lib.ListN.{length, take, drop, getD}
 use Rattle.text.specs.Characters.{space, digit}
-use Rattle.transcript.specs.declared.first_line.Engine.the-variants.{Scan, Tree, Thermometer, TokenBus}
+use Rattle.engines.specs.declared.Engine.the-variants.{Scan, Tree, Thermometer}
+use Rattle.transcript.specs.declared.first_line.Kind.the-variants.{RoundRobin, TokenBus}
 use Rattle.transcript.specs.declared.first_line.Letter.{Letter}
 use Rattle.transcript.specs.declared.first_line.Letter.the-variants.{Names, Unknown}
 use Rattle.transcript.specs.declared.first_line.Number.{Number}
@@ -19,8 +20,8 @@ pub mod Laws
 -- "a letter (S scan, T tree, P thermometer, B bus)"
 abbrev pub letter : ℕ → Letter
 letter c =
-    cond (eqb c 83) (Names Scan)
-    (cond (eqb c 84) (Names Tree) (cond (eqb c 80) (Names Thermometer) (cond (eqb c 66) (Names TokenBus) Unknown)))
+    cond (eqb c 83) (Names (RoundRobin Scan))
+    (cond (eqb c 84) (Names (RoundRobin Tree)) (cond (eqb c 80) (Names (RoundRobin Thermometer)) (cond (eqb c 66) (Names TokenBus) Unknown)))
 
 abbrev pub isDigit : ℕ → Bool
 isDigit c = leb (digit 0) c && leb c (digit 9)

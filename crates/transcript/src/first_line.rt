@@ -1,22 +1,21 @@
 // The first line of an input: the engine's letter, the number of stations and the pick count.
 use crate::lines;
+use engines::Engine;
 ghost use mathlib.Core.Path.{_≡_};
 ghost use mathlib.Core.Bool.{cond};
 ghost use Prim.Native.Nat.{_≤_};
 ghost use lib.ListN.{length};
 ghost use Rattle.transcript.specs.FirstLine as Spec;
 
-// Which engine runs.
-pub enum Engine {
-    Scan,
-    Tree,
-    Thermometer,
+// Which kind of arbiter runs: an engine of the round-robin rule, or the token bus.
+pub enum Kind {
+    RoundRobin(Engine),
     TokenBus,
 }
 
 // What a letter names.
 pub enum Letter {
-    Names(Engine),
+    Names(Kind),
     Unknown,
 }
 
@@ -28,7 +27,7 @@ pub enum Number {
 
 // What a first line says.
 pub enum FirstLine {
-    Opens(Engine, usize, usize),
+    Opens(Kind, usize, usize),
     Unreadable,
 }
 
@@ -56,7 +55,7 @@ pub(crate) fn read(line: &[u8]) -> FirstLine
 fn opens(letter: Letter, width: Number, picks: Number) -> FirstLine
     ensures { λ r. ⌜ r ≡ Spec.opens letter width picks ⌝ }
 {
-    let Letter::Names(engine) = letter else {
+    let Letter::Names(kind) = letter else {
         return FirstLine::Unreadable;
     };
     let Number::Value(n) = width else {
@@ -65,18 +64,18 @@ fn opens(letter: Letter, width: Number, picks: Number) -> FirstLine
     let Number::Value(m) = picks else {
         return FirstLine::Unreadable;
     };
-    FirstLine::Opens(engine, n, m)
+    FirstLine::Opens(kind, n, m)
 }
 
-// The engine that a letter names.
+// The kind of arbiter that a letter names.
 fn named(character: u8) -> Letter
     ensures { λ r. ⌜ r ≡ Spec.letter character ⌝ }
 {
     match character {
-        b'S' => Letter::Names(Engine::Scan),
-        b'T' => Letter::Names(Engine::Tree),
-        b'P' => Letter::Names(Engine::Thermometer),
-        b'B' => Letter::Names(Engine::TokenBus),
+        b'S' => Letter::Names(Kind::RoundRobin(Engine::Scan)),
+        b'T' => Letter::Names(Kind::RoundRobin(Engine::Tree)),
+        b'P' => Letter::Names(Kind::RoundRobin(Engine::Thermometer)),
+        b'B' => Letter::Names(Kind::TokenBus),
         _ => Letter::Unknown,
     }
 }

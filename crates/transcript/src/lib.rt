@@ -45,12 +45,12 @@ fn answer(body: &[u8], out: &mut [u8], at: usize) -> usize
 {
     let end = lines::line_end(body, 0);
     let first = first_line::read(&body[..end]);
-    let FirstLine::Opens(engine, width, picks) = first else {
+    let FirstLine::Opens(kind, width, picks) = first else {
         return output::put_refusal(0, refusal::FIRST_LINE, 0, out, at);
     };
-    let opened = cycles::open(engine, width, picks);
+    let opened = cycles::open(kind, width, picks);
     if opened.number != refusal::SERVED {
         return output::put_refusal(0, opened.number, opened.place, out, at);
     }
-    cycles::print_lines(engine, opened.state, body, end + 1, out, at)
+    cycles::print_lines(kind, opened.state, body, end + 1, out, at)
 }

@@ -29,13 +29,13 @@ use Rattle.arbiter.specs.Questions.Laws as Questions·Laws
 use Rattle.arbiter.specs.Answers as Answers
 use Rattle.arbiter.specs.Answers.{Outcome, ifPassed, writes}
 use Rattle.arbiter.specs.Cycle as RoundRobin
-use Rattle.arbiter.specs.Cycle.Laws as RoundRobinLaws
 use Rattle.tree.specs.Calls as Tree
 use Rattle.tree.specs.Calls.Laws as TreeLaws
 use Rattle.token_bus.specs.Calls as Bus
 use Rattle.token_bus.specs.Calls.Laws as BusLaws
-use Rattle.transcript.specs.declared.first_line.Engine.{Engine}
-use Rattle.transcript.specs.declared.first_line.Engine.the-variants.{Scan, Tree, Thermometer, TokenBus}
+use Rattle.transcript.specs.declared.first_line.Kind.{Kind}
+use Rattle.engines.specs.declared.Engine.the-variants.{Scan, Tree, Thermometer}
+use Rattle.transcript.specs.declared.first_line.Kind.the-variants.{RoundRobin, TokenBus}
 use Rattle.transcript.specs.Lines.Laws.{totalLength}
 use Rattle.transcript.specs.Cycles.{opening, wellFormed, wire, called, cycle, refusedWord, refusal, granted, printed, run}
 
@@ -155,22 +155,22 @@ module _ (s : State) (requests : List ℕ) where
       (length-small 5 n (length requests) (omega arith)))
       (length-small 6 n size (omega arith)))
       (bits-small requests))
-      (λ z. RoundRobinLaws.ready s requests size refl z .allows .station)
+      (λ z. Questions·Laws.ready n (s .picks) (s .head) requests size refl z .allows .station)
 
   -- the tree's cycle, as a call that writes its grants
   tree-writes : (grants nodes : List ℕ) → let o = Tree.cycle s requests grants nodes in
       record { answer = o .answer; written = o .grants }
-      ≡ writes (Tree.questions s requests (length grants) (length nodes)) s (RoundRobin.answer s requests) (RoundRobin.granting s requests) grants
+      ≡ writes (Tree.questions (s .width) (s .picks) (s .head) requests (length grants) (length nodes)) s (RoundRobin.answer s requests) (RoundRobin.granting s requests) grants
   unfolding Tree.cycle writes ifPassed
   tree-writes grants nodes =
-      Lists.split (eqb ((Tree.questions s requests (length grants) (length nodes)) .number) 0) (λ e. rw e) (λ e. rw e)
+      Lists.split (eqb ((Tree.questions (s .width) (s .picks) (s .head) requests (length grants) (length nodes)) .number) 0) (λ e. rw e) (λ e. rw e)
 
   tree-printable : (nodes : List ℕ) → let o = Tree.cycle s requests (replicate (s .width) 0) nodes in
       Printable s (length requests) (record { answer = o .answer; written = o .grants })
   tree-printable nodes =
       let n = s .width in
       rw (tree-writes (replicate n 0) nodes)
-      (ruled-printable (Tree.questions s requests size (length nodes))
+      (ruled-printable (Tree.questions n (s .picks) (s .head) requests size (length nodes))
       (then-small
       (then-small
       (then-small
@@ -182,7 +182,7 @@ module _ (s : State) (requests : List ℕ) where
       (length-small 6 n size (omega arith)))
       (length-small 7 (2 * n) (length nodes) (omega arith)))
       (bits-small requests))
-      (λ z. TreeLaws.ready s requests size (length nodes) refl z .allows .station))
+      (λ z. TreeLaws.ready n (s .picks) (s .head) requests size (length nodes) refl z .allows .station))
 
   bus-printable : (byte : ℕ) → Printable s (length requests) (Bus.cycle s requests (replicate (s .width) 0) byte)
   bus-printable byte =
@@ -190,7 +190,7 @@ module _ (s : State) (requests : List ℕ) where
       let t = Bus.token s in
       let asks = RoundRobin.asking s requests in
       let ack = Bus.acknowledged byte in
-      writes-printable (Bus.questions s requests size byte) s (Bus.answer s requests byte) (Bus.granting s requests) (replicate n 0)
+      writes-printable (Bus.questions n (s .picks) (s .head) requests size byte) s (Bus.answer s requests byte) (Bus.granting s requests) (replicate n 0)
       (then-small
       (then-small
       (then-small
@@ -206,27 +206,25 @@ module _ (s : State) (requests : List ℕ) where
       (ap length (BusRule.grants-marks n t asks) ∙ Lists.length-table _ 0 n)
       (length-replicate n 0)
       (λ z.
-      let station = BusLaws.ready s requests size byte refl z .allows .station in
+      let station = BusLaws.ready n (s .picks) (s .head) requests size byte refl z .allows .station in
       omega (arith, BusRule.next-below n t ack asks station, Rule.start-at (BusNext.next n t ack asks)))
 
-  called-printable : (e : Engine) (byte : ℕ) → Printable s (length requests) (called e s requests byte)
-  called-printable Scan byte = scan-printable
-  called-printable Tree byte = tree-printable (replicate (2 * s .width) 0)
-  called-printable Thermometer byte = scan-printable
+  called-printable : (e : Kind) (byte : ℕ) → Printable s (length requests) (called e s requests byte)
+  called-printable (RoundRobin Scan) byte = scan-printable
+  called-printable (RoundRobin Tree) byte = tree-printable (replicate (2 * s .width) 0)
+  called-printable (RoundRobin Thermometer) byte = scan-printable
   called-printable TokenBus byte = bus-printable byte
 
 pub bus-formed : (n : ℕ) (line : List ℕ) → wellFormed TokenBus n line ≡ true → length line ≡ n + 2
 bus-formed n line t = eqb-true (length line) (n + 2) (Lists.both (eqb (length line) (n + 2)) (eqb (getD line n 0) space) t .0)
 
 -- a line that question 5 lets pass has a character for each station
-pub formed-long : (e : Engine) (n : ℕ) (line : List ℕ) → wellFormed e n line ≡ true → n ≤ length line
-formed-long Scan n line t = omega (arith, eqb-true (length line) n t)
-formed-long Tree n line t = omega (arith, eqb-true (length line) n t)
-formed-long Thermometer n line t = omega (arith, eqb-true (length line) n t)
+pub formed-long : (e : Kind) (n : ℕ) (line : List ℕ) → wellFormed e n line ≡ true → n ≤ length line
+formed-long (RoundRobin e) n line t = omega (arith, eqb-true (length line) n t)
 formed-long TokenBus n line t = omega (arith, bus-formed n line t)
 
 -- a cycle line
-module _ (e : Engine) (s : State) (line : List ℕ) where
+module _ (e : Kind) (s : State) (line : List ℕ) where
   abbrev requests : List ℕ
   requests = map wire (take (s .width) line)
 
@@ -301,7 +299,7 @@ granted-short k grants next a b =
     omega (arith, decimal-few 4 k a, decimal-few 2 next b)
 
 -- what a cycle line prints is at most 21 times as long as the line with its line feed
-printed-short : (e : Engine) (s : State) (line : List ℕ) (k : ℕ) → s .width ≤ Questions.maxWidth → k < 100000
+printed-short : (e : Kind) (s : State) (line : List ℕ) (k : ℕ) → s .width ≤ Questions.maxWidth → k < 100000
     → length (printed k (cycle e s line)) ≤ 21 * (1 + length line)
 printed-short e s line k most few =
     let o = cycle e s line in
@@ -316,7 +314,7 @@ printed-short e s line k most few =
     omega (arith, ap length (printed-refused k o (eqb-false (o .answer .number) 0 f)), short))
 
 -- what lines print is at most 21 times as long as they are with their line feeds, where their numbers have five digits at most
-pub run-short : (e : Engine) (s : State) (k : ℕ) (ls : List (List ℕ)) → s .width ≤ Questions.maxWidth → k + length ls ≤ 100000
+pub run-short : (e : Kind) (s : State) (k : ℕ) (ls : List (List ℕ)) → s .width ≤ Questions.maxWidth → k + length ls ≤ 100000
     → length (run e s k ls) ≤ 21 * totalLength ls
 unfolding run
 run-short e s k [] wide few = omega arith
@@ -327,28 +325,26 @@ run-short e s k (line ∷ ls) wide few =
     omega (arith, length-append (printed k o) (run e (o .answer .state) (k + 1) ls))
 
 -- an opening: its numbers, and the width of the state that it makes
-opened-small : (v : Verdict) (s : State) → Small 0 v → ((Answers.opened v s) .number < 100) × ((Answers.opened v s) .place ≤ 0)
+opened-small : (v : Verdict) (n m : ℕ) (h : Head) → Small 0 v
+    → ((Answers.opened v n m h) .number < 100) × ((Answers.opened v n m h) .place ≤ 0)
 unfolding ifPassed
-opened-small v s p =
+opened-small v n m h p =
     Lists.split (eqb (v .number) 0) (λ e. rw e (omega arith, omega arith)) (λ e. rw e (p .number, p .place))
 
-pub opening-small : (e : Engine) (n m : ℕ) → ((opening e n m) .number < 100) × ((opening e n m) .place ≤ 0)
-opening-small Scan n m = opened-small _ _ (then-small (then-small (width-small n) (picks-small n m)) (head-small n None))
-opening-small Tree n m =
-    opened-small _ _ (then-small (then-small (then-small (width-small n) (tree-width-small n)) (one-pick-small m)) (head-small n None))
-opening-small Thermometer n m = opened-small _ _ (then-small (then-small (width-small n) (picks-small n m)) (head-small n None))
-opening-small TokenBus n m = opened-small _ _ (then-small (then-small (width-small n) (one-pick-small m)) (token-small n (At 0)))
+pub opening-small : (e : Kind) (n m : ℕ) → ((opening e n m) .number < 100) × ((opening e n m) .place ≤ 0)
+opening-small (RoundRobin Scan) n m = opened-small _ n m None (then-small (then-small (width-small n) (picks-small n m)) (head-small n None))
+opening-small (RoundRobin Tree) n m =
+    opened-small _ n m None (then-small (then-small (then-small (width-small n) (tree-width-small n)) (one-pick-small m)) (head-small n None))
+opening-small (RoundRobin Thermometer) n m = opened-small _ n m None (then-small (then-small (width-small n) (picks-small n m)) (head-small n None))
+opening-small TokenBus n m = opened-small _ n m (At 0) (then-small (then-small (width-small n) (one-pick-small m)) (token-small n (At 0)))
 
-opened-wide : (v : Verdict) (s : State) → (v .number ≡ 0 → s .width ≤ Questions.maxWidth) → (Answers.opened v s) .state .width ≤ Questions.maxWidth
+opened-wide : (v : Verdict) (n m : ℕ) (h : Head) → (v .number ≡ 0 → n ≤ Questions.maxWidth)
+    → (Answers.opened v n m h) .state .width ≤ Questions.maxWidth
 unfolding ifPassed
-opened-wide v s p = Lists.split (eqb (v .number) 0) (λ e. rw e (p (eqb-true (v .number) 0 e))) (λ e. rw e (omega arith))
+opened-wide v n m h p = Lists.split (eqb (v .number) 0) (λ e. rw e (p (eqb-true (v .number) 0 e))) (λ e. rw e (omega arith))
 
--- the state that an opening is asked for
-abbrev asked : ℕ → ℕ → Head → State
-asked n m h = record { width = n; picks = m; head = h }
-
-pub opening-wide : (e : Engine) (n m : ℕ) → (opening e n m) .state .width ≤ Questions.maxWidth
-opening-wide Scan n m = opened-wide _ _ (λ z. Questions·Laws.allowed (asked n m None) z .most)
-opening-wide Tree n m = opened-wide _ _ (λ z. TreeLaws.allowed (asked n m None) z .most)
-opening-wide Thermometer n m = opened-wide _ _ (λ z. Questions·Laws.allowed (asked n m None) z .most)
-opening-wide TokenBus n m = opened-wide _ _ (λ z. BusLaws.allowed (asked n m (At 0)) z .most)
+pub opening-wide : (e : Kind) (n m : ℕ) → (opening e n m) .state .width ≤ Questions.maxWidth
+opening-wide (RoundRobin Scan) n m = opened-wide _ n m None (λ z. Questions·Laws.allowed n m None z .most)
+opening-wide (RoundRobin Tree) n m = opened-wide _ n m None (λ z. TreeLaws.allowed n m None z .most)
+opening-wide (RoundRobin Thermometer) n m = opened-wide _ n m None (λ z. Questions·Laws.allowed n m None z .most)
+opening-wide TokenBus n m = opened-wide _ n m (At 0) (λ z. BusLaws.allowed n m (At 0) z .most)

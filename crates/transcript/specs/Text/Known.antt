@@ -7,7 +7,8 @@ use mathlib.Core.List.{[], _∷_, _++_}
 use Rattle.text.specs.Characters.{digits, decimal}
 use Rattle.arbiter.specs.Questions.{_then_}
 use Rattle.arbiter.specs.Answers.{ifPassed}
-use Rattle.transcript.specs.declared.first_line.Engine.the-variants.{Scan, Tree, Thermometer, TokenBus}
+use Rattle.engines.specs.declared.Engine.the-variants.{Scan, Tree, Thermometer}
+use Rattle.transcript.specs.declared.first_line.Kind.the-variants.{RoundRobin, TokenBus}
 use Rattle.transcript.specs.declared.first_line.FirstLine.the-variants.{Opens, Unreadable}
 use Rattle.transcript.specs.Lines.{place, split, unended, lines}
 use Rattle.transcript.specs.FirstLine.{wellFormed, number, firstLine}
@@ -21,9 +22,9 @@ known-lines = (refl, refl, refl)
 
 -- the four letters; 0 and 999 are numbers
 known-first-lines :
-    (firstLine (83 ∷ 32 ∷ 48 ∷ 32 ∷ 57 ∷ 57 ∷ 57 ∷ []) ≡ Opens Scan 0 999)
-    × (firstLine (84 ∷ 32 ∷ 56 ∷ 32 ∷ 49 ∷ []) ≡ Opens Tree 8 1)
-    × (firstLine (80 ∷ 32 ∷ 52 ∷ 32 ∷ 50 ∷ []) ≡ Opens Thermometer 4 2)
+    (firstLine (83 ∷ 32 ∷ 48 ∷ 32 ∷ 57 ∷ 57 ∷ 57 ∷ []) ≡ Opens (RoundRobin Scan) 0 999)
+    × (firstLine (84 ∷ 32 ∷ 56 ∷ 32 ∷ 49 ∷ []) ≡ Opens (RoundRobin Tree) 8 1)
+    × (firstLine (80 ∷ 32 ∷ 52 ∷ 32 ∷ 50 ∷ []) ≡ Opens (RoundRobin Thermometer) 4 2)
     × (firstLine (66 ∷ 32 ∷ 50 ∷ 53 ∷ 54 ∷ 32 ∷ 49 ∷ []) ≡ Opens TokenBus 256 1)
 unfolding firstLine number wellFormed place
 known-first-lines = (refl, refl, refl, refl)

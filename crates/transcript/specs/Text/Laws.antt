@@ -10,7 +10,7 @@ use borrow.Author.Tests.{eq-eqb, ne-eqb, le-leb, lt-leb, leb-true, leb-false}
 use Rattle.rules.specs.Lists.Laws as Lists
 use Rattle.text.specs.Characters.{lineFeed}
 use Rattle.arbiter.specs.declared.Answer.{Answer}
-use Rattle.transcript.specs.declared.first_line.Engine.{Engine}
+use Rattle.transcript.specs.declared.first_line.Kind.{Kind}
 use Rattle.transcript.specs.declared.first_line.FirstLine.{FirstLine}
 use Rattle.transcript.specs.declared.first_line.FirstLine.the-variants.{Opens, Unreadable}
 use Rattle.transcript.specs.Lines.{place, split, unended, linesFrom}
@@ -33,7 +33,7 @@ module _ (body : List ℕ) (end : ℕ) (first : FirstLine) (is : end ≡ place l
   unfolding opened
   unreadable e = follows-first ∙ rw e
 
-  module _ {e : Engine} {n m : ℕ} {a : Answer} (names : first ≡ Opens e n m) (answers : a ≡ opening e n m) where
+  module _ {e : Kind} {n m : ℕ} {a : Answer} (names : first ≡ Opens e n m) (answers : a ≡ opening e n m) where
     pub refused : (a .number ≡ 0 → ⊥) → follows body ≡ refusal 0 (a .number) (a .place)
     unfolding opened
     refused z = follows-first ∙ rw (names, ← answers, ne-eqb (a .number) 0 z)

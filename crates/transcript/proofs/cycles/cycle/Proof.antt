@@ -8,7 +8,7 @@ use lib.ListN.{length, take, getD, length-map}
 use lib.Seq.{length-take-le}
 use borrow.Author.Needs.{needs}
 use Rattle.arbiter.specs.declared.State.{State}
-use Rattle.transcript.specs.declared.first_line.Engine.{Engine}
+use Rattle.transcript.specs.declared.first_line.Kind.{Kind}
 use Rattle.transcript.specs.Cycles.{wellFormed, wire, called}
 use Rattle.transcript.specs.Cycles.Laws.{formed-long, cycle-called, cycle-refused}
 use Rattle.transcript.proofs.cycles.cycle.Statement.{statement}
@@ -26,7 +26,7 @@ unformed {passes = true} e t = absurd (true≢false (sym t))
 unformed {passes = false} e t = sym e
 
 -- as many bytes are read as there are stations
-read-length : {bytes : List ℕ} (e : Engine) (s : State) (line : List ℕ) → wellFormed e (s .width) line ≡ true
+read-length : {bytes : List ℕ} (e : Kind) (s : State) (line : List ℕ) → wellFormed e (s .width) line ≡ true
     → bytes ≡ map wire (take (s .width) line) → length bytes ≡ s .width
 read-length e s line t b =
     ap length b
@@ -45,13 +45,13 @@ refused-requires c κs = search needs
 returns : tie.Need-returns
 returns c =
     let a = c .before .before .before .before .before .before .args in
-    told (cycle-refused (a .engine) (a .s) (a .line .now) (unformed (c .before .before .before .well-formed .ensures) (c .before .before .if1 .taken)))
+    told (cycle-refused (a .kind) (a .s) (a .line .now) (unformed (c .before .before .before .well-formed .ensures) (c .before .before .if1 .taken)))
     (c .refused .ensures ∙ rw (c .before .refuse-unless .ensures)) (c .before .before .before .before .before .before .pre .1)
 
 slice-aggregate-read-wires : tie.Need-slice-aggregate-read-wires
 slice-aggregate-read-wires c =
     let a = c .before .before .before .before .before .args in
-    sym (length-take-le (a .s .width) (a .line .now) (formed-long (a .engine) (a .s .width) (a .line .now) (formed (c .before .before .well-formed .ensures) (c .before .if1 .left))))
+    sym (length-take-le (a .s .width) (a .line .now) (formed-long (a .kind) (a .s .width) (a .line .now) (formed (c .before .before .well-formed .ensures) (c .before .if1 .left))))
 
 array-borrow-prefix-requests : tie.Need-array-borrow-prefix-requests
 array-borrow-prefix-requests c = search needs
@@ -63,13 +63,13 @@ read-wires-requires : tie.Need-read-wires-requires
 read-wires-requires c κs =
     let a = c .before .before .before .before .before .before .args in
     sym (front-length (a .s .width) 256 (c .before .before .before .before .before .before .pre .0))
-    ∙ sym (length-take-le (a .s .width) (a .line .now) (formed-long (a .engine) (a .s .width) (a .line .now) (formed (c .before .before .before .well-formed .ensures) (c .before .before .if1 .left))))
+    ∙ sym (length-take-le (a .s .width) (a .line .now) (formed-long (a .kind) (a .s .width) (a .line .now) (formed (c .before .before .before .well-formed .ensures) (c .before .before .if1 .left))))
 
 array-share-prefix-requests : tie.Need-array-share-prefix-requests
-array-share-prefix-requests c = again-fits 256 (c .before .read-wires .last .1 .0) (read-length (c .before .before .before .before .before .before .before .before .args .engine) (c .before .before .before .before .before .before .before .before .args .s) (c .before .before .before .before .before .before .before .before .args .line .now) (formed (c .before .before .before .before .before .well-formed .ensures) (c .before .before .before .before .if1 .left)) (c .before .read-wires .ensures))
+array-share-prefix-requests c = again-fits 256 (c .before .read-wires .last .1 .0) (read-length (c .before .before .before .before .before .before .before .before .args .kind) (c .before .before .before .before .before .before .before .before .args .s) (c .before .before .before .before .before .before .before .before .args .line .now) (formed (c .before .before .before .before .before .well-formed .ensures) (c .before .before .before .before .if1 .left)) (c .before .read-wires .ensures))
 
 slice-aggregate-call : tie.Need-slice-aggregate-call
-slice-aggregate-call c = again-length 256 (c .before .before .read-wires .last .1 .0) (read-length (c .before .before .before .before .before .before .before .before .before .args .engine) (c .before .before .before .before .before .before .before .before .before .args .s) (c .before .before .before .before .before .before .before .before .before .args .line .now) (formed (c .before .before .before .before .before .before .well-formed .ensures) (c .before .before .before .before .before .if1 .left)) (c .before .before .read-wires .ensures))
+slice-aggregate-call c = again-length 256 (c .before .before .read-wires .last .1 .0) (read-length (c .before .before .before .before .before .before .before .before .before .args .kind) (c .before .before .before .before .before .before .before .before .before .args .s) (c .before .before .before .before .before .before .before .before .before .args .line .now) (formed (c .before .before .before .before .before .before .well-formed .ensures) (c .before .before .before .before .before .if1 .left)) (c .before .before .read-wires .ensures))
 
 call-requires : tie.Need-call-requires
 call-requires c κs = (c .before .before .before .before .before .before .before .before .before .before .pre .0, (formed (c .before .before .before .before .before .before .before .well-formed .ensures) (c .before .before .before .before .before .before .if1 .left), c .before .before .before .before .before .before .before .before .before .before .pre .1))
@@ -82,9 +82,9 @@ returns-2 c =
     let a = c .before .before .before .before .before .before .before .before .before .before .before .before .before .args in
     let n = a .s .width in
     let byte = wire (getD (a .line .now) (n + 1) 0) in
-    let long = read-length (a .engine) (a .s) (a .line .now) (formed (c .before .before .before .before .before .before .before .before .before .before .well-formed .ensures) (c .before .before .before .before .before .before .before .before .before .if1 .left)) (c .before .before .before .before .before .before .read-wires .ensures) in
-    told-of (λ requests. called (a .engine) (a .s) requests byte) (again 256 (c .before .before .before .before .before .before .read-wires .last .1 .0) long ∙ c .before .before .before .before .before .before .read-wires .ensures)
-    (cycle-called (a .engine) (a .s) (a .line .now) (formed (c .before .before .before .before .before .before .before .before .before .before .well-formed .ensures) (c .before .before .before .before .before .before .before .before .before .if1 .left))) (c .before .before .call .ensures .0) (c .before .before .call .ensures .1)
+    let long = read-length (a .kind) (a .s) (a .line .now) (formed (c .before .before .before .before .before .before .before .before .before .before .well-formed .ensures) (c .before .before .before .before .before .before .before .before .before .if1 .left)) (c .before .before .before .before .before .before .read-wires .ensures) in
+    told-of (λ requests. called (a .kind) (a .s) requests byte) (again 256 (c .before .before .before .before .before .before .read-wires .last .1 .0) long ∙ c .before .before .before .before .before .before .read-wires .ensures)
+    (cycle-called (a .kind) (a .s) (a .line .now) (formed (c .before .before .before .before .before .before .before .before .before .before .well-formed .ensures) (c .before .before .before .before .before .before .before .before .before .if1 .left))) (c .before .before .call .ensures .0) (c .before .before .call .ensures .1)
 
 pub cycle-spec : {M : Type 1} → statement M
 cycle-spec =

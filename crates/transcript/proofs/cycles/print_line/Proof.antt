@@ -10,7 +10,7 @@ use Rattle.text.specs.Output.Laws.{same-put}
 use Rattle.arbiter.specs.declared.Answer.{Answer}
 use Rattle.arbiter.specs.declared.State.{State}
 use Rattle.arbiter.specs.Answers.{Outcome}
-use Rattle.transcript.specs.declared.first_line.Engine.{Engine}
+use Rattle.transcript.specs.declared.first_line.Kind.{Kind}
 use Rattle.transcript.specs.Cycles.{cycle, refusal, granted, printed}
 use Rattle.transcript.specs.Cycles.Laws.{cycle-printable, printed-refused, printed-granted}
 use Rattle.transcript.proofs.cycles.print_line.Statement.{statement}
@@ -18,7 +18,7 @@ use Rattle.transcript.proofs.Zeros.{front-zeros, front-length, again, a
 use Rattle.transcript.proofs.cycles.print_line.Tie as tie
 
 -- as many grant bytes are written as there are stations
-written-length : {bytes : List ℕ} (e : Engine) (s : State) (line : List ℕ) → bytes ≡ (cycle e s line) .written → length bytes ≡ s .width
+written-length : {bytes : List ℕ} (e : Kind) (s : State) (line : List ℕ) → bytes ≡ (cycle e s line) .written → length bytes ≡ s .width
 written-length e s line b = ap length b ∙ cycle-printable e s line .grants
 
 -- what a line prints, told by the answer x and the grants that the cycle gave
@@ -51,7 +51,7 @@ same-length c = search needs
 returns : tie.Need-returns
 returns c =
     let a = c .before .before .before .before .before .before .before .before .before .before .before .before .before .before .args in (
-      same-put (sym (refused-text (a .run .number) (cycle (a .engine) (a .run .state) (a .line .now)) (c .before .before .before .before .before .before .before .before .before .cycle .ensures .0) (c .before .before .before .before .if1 .taken))) (c .before .before .put-refusal .ensures),
+      same-put (sym (refused-text (a .run .number) (cycle (a .kind) (a .run .state) (a .line .now)) (c .before .before .before .before .before .before .before .before .before .cycle .ensures .0) (c .before .before .before .before .if1 .taken))) (c .before .before .put-refusal .ensures),
       (ap (λ (x : Answer). x .state) (c .before .before .before .before .before .before .before .before .before .cycle .ensures .0), refl),
     )
 
@@ -61,12 +61,12 @@ first-station-requires c κs = search needs
 array-share-prefix-grants : tie.Need-array-share-prefix-grants
 array-share-prefix-grants c =
     let a = c .before .before .before .before .before .before .before .before .before .before .before .args in
-    again-fits 256 (c .before .before .before .before .before .before .cycle .last .1 .1 .1 .0) (written-length (a .engine) (a .run .state) (a .line .now) (c .before .before .before .before .before .before .cycle .ensures .1))
+    again-fits 256 (c .before .before .before .before .before .before .cycle .last .1 .1 .1 .0) (written-length (a .kind) (a .run .state) (a .line .now) (c .before .before .before .before .before .before .cycle .ensures .1))
 
 slice-aggregate-put-granted : tie.Need-slice-aggregate-put-granted
 slice-aggregate-put-granted c =
     let a = c .before .before .before .before .before .before .before .before .before .before .before .before .args in
-    again-length 256 (c .before .before .before .before .before .before .before .cycle .last .1 .1 .1 .0) (written-length (a .engine) (a .run .state) (a .line .now) (c .before .before .before .before .before .before .before .cycle .ensures .1))
+    again-length 256 (c .before .before .before .before .before .before .before .cycle .last .1 .1 .1 .0) (written-length (a .kind) (a .run .state) (a .line .now) (c .before .before .before .before .before .before .before .cycle .ensures .1))
 
 put-granted-requires : tie.Need-put-granted-requires
 put-granted-requires c κs = tt
@@ -78,9 +78,9 @@ returns-2 : tie.Need-returns-2
 returns-2 c =
     let a = c .before .before .before .before .before .before .before .before .before .before .before .before .before .before .before .before .args in
     let o = c .before .before .before .before .before .before .before .before .before .before .before .cycle .ensures in
-    let part = again 256 (c .before .before .before .before .before .before .before .before .before .before .before .cycle .last .1 .1 .1 .0) (written-length (a .engine) (a .run .state) (a .line .now) (o .1)) in (
+    let part = again 256 (c .before .before .before .before .before .before .before .before .before .before .before .cycle .last .1 .1 .1 .0) (written-length (a .kind) (a .run .state) (a .line .now) (o .1)) in (
       same-put
-          (sym (granted-text (a .run .number) (cycle (a .engine) (a .run .state) (a .line .now)) (o .0) (part ∙ o .1) (c .before .before .before .before .before .first-station .ensures) (c .before .before .before .before .before .before .if1 .left)))
+          (sym (granted-text (a .run .number) (cycle (a .kind) (a .run .state) (a .line .now)) (o .0) (part ∙ o .1) (c .before .before .before .before .before .first-station .ensures) (c .before .before .before .before .before .before .if1 .left)))
           (c .before .before .put-granted .ensures),
       (ap (λ (x : Answer). x .state) (o .0), refl),
     )

@@ -11,12 +11,6 @@ enum-told c = search needs
 enum-told-2 : tie.Need-enum-told-2
 enum-told-2 c = search needs
 
-enum-told-3 : tie.Need-enum-told-3
-enum-told-3 c = search needs
-
-enum-told-4 : tie.Need-enum-told-4
-enum-told-4 c = search needs
-
 is-bus-line-requires : tie.Need-is-bus-line-requires
 is-bus-line-requires c κs = search needs
 
@@ -24,24 +18,8 @@ returns : tie.Need-returns
 returns c = rw (c .enum-told .given .1)
 
 returns-2 : tie.Need-returns-2
-returns-2 c = rw (c .enum-told2 .given .1)
-
-returns-3 : tie.Need-returns-3
-returns-3 c = rw (c .enum-told3 .given .1)
-
-returns-4 : tie.Need-returns-4
-returns-4 c = c .is-bus-line .ensures ∙ rw (c .before .enum-told4 .given .1)
+returns-2 c = c .is-bus-line .ensures ∙ rw (c .before .enum-told2 .given .1)
 
 pub well-formed-spec : {M : Type 1} → statement M
 well-formed-spec =
-    tie.close
-    (tie.spec
-    enum-told
-    enum-told-2
-    enum-told-3
-    enum-told-4
-    is-bus-line-requires
-    returns
-    returns-2
-    returns-3
-    returns-4)
+    tie.close (tie.spec enum-told enum-told-2 is-bus-line-requires returns returns-2)
