@@ -4,7 +4,9 @@ use crate::report::Part;
 use crate::report::Tally;
 use arbiter::Answer;
 use arbiter::State;
+use one_hot::OneHot;
 use rules::Head;
+use snapshot::Snapshot;
 
 const WIDTHS: [usize; 10] = [1, 2, 3, 8, 9, 64, 127, 128, 255, 256];
 
@@ -87,10 +89,10 @@ fn image_in(s: State, known: &[u8], written: &mut [u8], again: &mut [u8]) -> Par
         picks: s.picks,
         head: Head::At(0),
     };
-    let a = s.write_one_hot(written);
-    let b = other.read_one_hot(written);
+    let a = OneHot(s).write(written);
+    let b = OneHot(other).read(written);
     let read = b.state;
-    let c = read.write_one_hot(again);
+    let c = OneHot(read).write(again);
     let bytes = compare::same_bytes(written, known) & compare::same_bytes(again, known);
     answers(s, a, b, c, bytes)
 }
@@ -121,10 +123,10 @@ fn snapshot(s: State) -> Part {
     let known = bytes(less_one(s.width), low(s.picks), h);
     let mut written = [7u8; 4];
     let mut again = [7u8; 4];
-    let a = s.write_snapshot(&mut written);
-    let b = State::read_snapshot(&written);
+    let a = Snapshot(s).write(&mut written);
+    let b = Snapshot::read(&written);
     let read = b.state;
-    let c = read.write_snapshot(&mut again);
+    let c = Snapshot(read).write(&mut again);
     let bytes = compare::same_bytes(&written, &known) & compare::same_bytes(&again, &known);
     answers(s, a, b, c, bytes)
 }

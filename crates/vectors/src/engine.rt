@@ -1,12 +1,13 @@
-// The four engines behind one call.
+// The four engines behind one call: the three of the round-robin rule by the dispatcher, and the token bus.
 ghost use Prim.Native.Nat.{_≤_};
 use arbiter::Answer;
 use arbiter::State;
+use engines;
+use engines::Dispatch;
+use one_hot::OneHot;
 use rules::Head;
-use scan::Scan;
-use thermometer::Thermometer;
+use snapshot::Snapshot;
 use token_bus::TokenBus;
-use tree::Tree;
 
 pub enum Engine {
     Scan,
@@ -18,9 +19,9 @@ pub enum Engine {
 // Opens without a head.
 pub(crate) fn open(engine: Engine, width: usize, picks: usize) -> Answer {
     match engine {
-        Engine::Scan => Scan::open(width, picks),
-        Engine::Tree => Tree::open(width, picks),
-        Engine::Thermometer => Thermometer::open(width, picks),
+        Engine::Scan => Dispatch::open(engines::Engine::Scan, width, picks),
+        Engine::Tree => Dispatch::open(engines::Engine::Tree, width, picks),
+        Engine::Thermometer => Dispatch::open(engines::Engine::Thermometer, width, picks),
         Engine::Bus => TokenBus::open(width, picks),
     }
 }
@@ -28,9 +29,9 @@ pub(crate) fn open(engine: Engine, width: usize, picks: usize) -> Answer {
 // Opens with a head.
 pub(crate) fn open_at(engine: Engine, width: usize, picks: usize, head: usize) -> Answer {
     match engine {
-        Engine::Scan => Scan::open_at(width, picks, head),
-        Engine::Tree => Tree::open_at(width, picks, head),
-        Engine::Thermometer => Thermometer::open_at(width, picks, head),
+        Engine::Scan => Dispatch::open_at(engines::Engine::Scan, width, picks, head),
+        Engine::Tree => Dispatch::open_at(engines::Engine::Tree, width, picks, head),
+        Engine::Thermometer => Dispatch::open_at(engines::Engine::Thermometer, width, picks, head),
         Engine::Bus => TokenBus::open_at(width, picks, head),
     }
 }
@@ -45,9 +46,11 @@ pub(crate) fn cycle(
     acknowledge: u8,
 ) -> Answer {
     match engine {
-        Engine::Scan => Scan(s).cycle(requests, grants),
-        Engine::Tree => Tree(s).cycle(requests, grants, nodes),
-        Engine::Thermometer => Thermometer(s).cycle(requests, grants),
+        Engine::Scan => Dispatch(s).cycle(engines::Engine::Scan, requests, grants, nodes),
+        Engine::Tree => Dispatch(s).cycle(engines::Engine::Tree, requests, grants, nodes),
+        Engine::Thermometer => {
+            Dispatch(s).cycle(engines::Engine::Thermometer, requests, grants, nodes)
+        }
         Engine::Bus => TokenBus(s).cycle(requests, grants, acknowledge),
     }
 }
@@ -88,7 +91,7 @@ pub(crate) fn read_one_hot_on(s: State, image: &[u8], length: usize) -> Answer {
     if image.len() < length {
         return unrun(s);
     }
-    s.read_one_hot(&image[..length])
+    OneHot(s).read(&image[..length])
 }
 
 // Writing an image to the first bytes of a buffer.
@@ -96,7 +99,7 @@ pub(crate) fn write_one_hot_on(s: State, image: &mut [u8], length: usize) -> Ans
     if image.len() < length {
         return unrun(s);
     }
-    s.write_one_hot(&mut image[..length])
+    OneHot(s).write(&mut image[..length])
 }
 
 // Reading a snapshot from the first bytes of a buffer.
@@ -108,7 +111,7 @@ pub(crate) fn read_snapshot_on(snapshot: &[u8], length: usize) -> Answer {
             head: Head::None,
         });
     }
-    State::read_snapshot(&snapshot[..length])
+    Snapshot::read(&snapshot[..length])
 }
 
 // Writing a snapshot to the first bytes of a buffer.
@@ -116,7 +119,7 @@ pub(crate) fn write_snapshot_on(s: State, snapshot: &mut [u8], length: usize) ->
     if snapshot.len() < length {
         return unrun(s);
     }
-    s.write_snapshot(&mut snapshot[..length])
+    Snapshot(s).write(&mut snapshot[..length])
 }
 
 // An answer that no call gives.

@@ -12,11 +12,11 @@ unrun-requires c κs = search needs
 returns : tie.Need-returns
 returns c = search needs
 
-slice-aggregate-read-one-hot : tie.Need-slice-aggregate-read-one-hot
-slice-aggregate-read-one-hot c = simp length-take (omega arith)
+slice-aggregate-read : tie.Need-slice-aggregate-read
+slice-aggregate-read c = simp length-take (omega arith)
 
-read-one-hot-requires : tie.Need-read-one-hot-requires
-read-one-hot-requires c κs = search needs
+read-requires : tie.Need-read-requires
+read-requires c κs = search needs
 
 returns-2 : tie.Need-returns-2
 returns-2 c = search needs
@@ -24,4 +24,4 @@ returns-2 c = search needs
 pub read-one-hot-on-spec : {M : Type 1} → statement M
 read-one-hot-on-spec =
     tie.close
-    (tie.spec unrun-requires returns slice-aggregate-read-one-hot read-one-hot-requires returns-2)
+    (tie.spec unrun-requires returns slice-aggregate-read read-requires returns-2)

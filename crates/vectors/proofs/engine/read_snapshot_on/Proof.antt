@@ -12,11 +12,11 @@ unrun-requires c κs = search needs
 returns : tie.Need-returns
 returns c = search needs
 
-slice-aggregate-read-snapshot : tie.Need-slice-aggregate-read-snapshot
-slice-aggregate-read-snapshot c = simp length-take (omega arith)
+slice-aggregate-read : tie.Need-slice-aggregate-read
+slice-aggregate-read c = simp length-take (omega arith)
 
-read-snapshot-requires : tie.Need-read-snapshot-requires
-read-snapshot-requires c κs = search needs
+read-requires : tie.Need-read-requires
+read-requires c κs = search needs
 
 returns-2 : tie.Need-returns-2
 returns-2 c = search needs
@@ -27,6 +27,6 @@ read-snapshot-on-spec =
     (tie.spec
     unrun-requires
     returns
-    slice-aggregate-read-snapshot
-    read-snapshot-requires
+    slice-aggregate-read
+    read-requires
     returns-2)

@@ -12,14 +12,14 @@ unrun-requires c κs = search needs
 returns : tie.Need-returns
 returns c = search needs
 
-slice-relend-prefix-write-one-hot : tie.Need-slice-relend-prefix-write-one-hot
-slice-relend-prefix-write-one-hot c = search needs
+slice-relend-prefix-write : tie.Need-slice-relend-prefix-write
+slice-relend-prefix-write c = search needs
 
-slice-aggregate-write-one-hot : tie.Need-slice-aggregate-write-one-hot
-slice-aggregate-write-one-hot c = simp length-take (omega arith)
+slice-aggregate-write : tie.Need-slice-aggregate-write
+slice-aggregate-write c = simp length-take (omega arith)
 
-write-one-hot-requires : tie.Need-write-one-hot-requires
-write-one-hot-requires c κs = search needs
+write-requires : tie.Need-write-requires
+write-requires c κs = search needs
 
 same-length : tie.Need-same-length
 same-length c = search needs
@@ -33,8 +33,8 @@ write-one-hot-on-spec =
     (tie.spec
     unrun-requires
     returns
-    slice-relend-prefix-write-one-hot
-    slice-aggregate-write-one-hot
-    write-one-hot-requires
+    slice-relend-prefix-write
+    slice-aggregate-write
+    write-requires
     same-length
     returns-2)

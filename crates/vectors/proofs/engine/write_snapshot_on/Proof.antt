@@ -12,14 +12,14 @@ unrun-requires c κs = search needs
 returns : tie.Need-returns
 returns c = search needs
 
-slice-relend-prefix-write-snapshot : tie.Need-slice-relend-prefix-write-snapshot
-slice-relend-prefix-write-snapshot c = search needs
+slice-relend-prefix-write : tie.Need-slice-relend-prefix-write
+slice-relend-prefix-write c = search needs
 
-slice-aggregate-write-snapshot : tie.Need-slice-aggregate-write-snapshot
-slice-aggregate-write-snapshot c = simp length-take (omega arith)
+slice-aggregate-write : tie.Need-slice-aggregate-write
+slice-aggregate-write c = simp length-take (omega arith)
 
-write-snapshot-requires : tie.Need-write-snapshot-requires
-write-snapshot-requires c κs = search needs
+write-requires : tie.Need-write-requires
+write-requires c κs = search needs
 
 same-length : tie.Need-same-length
 same-length c = search needs
@@ -33,8 +33,8 @@ write-snapshot-on-spec =
     (tie.spec
     unrun-requires
     returns
-    slice-relend-prefix-write-snapshot
-    slice-aggregate-write-snapshot
-    write-snapshot-requires
+    slice-relend-prefix-write
+    slice-aggregate-write
+    write-requires
     same-length
     returns-2)
