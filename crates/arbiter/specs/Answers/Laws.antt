@@ -6,11 +6,12 @@ use mathlib.Core.Path.{_≡_, refl, sym, _∙_}
 use mathlib.Core.List.{List}
 use lib.Dec.{eqb}
 use borrow.Author.Tests.{eq-eqb, ne-eqb, eqb-true}
+use Rattle.rules.specs.declared.Head.{Head}
 use Rattle.rules.specs.Lists.Laws as Lists
 use Rattle.arbiter.specs.declared.Answer.{Answer}
 use Rattle.arbiter.specs.declared.State.{State}
 use Rattle.arbiter.specs.declared.question.Verdict.{Verdict}
-use Rattle.arbiter.specs.Answers.{Outcome, refused, ifPassed, writes}
+use Rattle.arbiter.specs.Answers.{Outcome, refused, ifPassed, opened, writes}
 
 -- the call passes
 pub if-passed : {A : Type 0} {v r : Verdict} {a x : A} (b : A) → r ≡ v → r .number ≡ 0 → x ≡ a → x ≡ ifPassed v a b
@@ -62,3 +63,7 @@ pub writes-is : (v : Verdict) (s : State) (answer : Answer) (target former : Lis
     → writes v s answer target former ≡ record { answer = answer; written = target }
 unfolding writes
 writes-is v s answer target former z = passed-is v _ _ z
+
+-- a call that makes a state, with the verdict in hand
+pub opened-same : {v r : Verdict} {x : Answer} (n m : ℕ) (h : Head) → r ≡ v → x ≡ opened r n m h → x ≡ opened v n m h
+opened-same n m h e f = f ∙ rw e

@@ -1,9 +1,7 @@
 -- `open` meets its contract.
 -- Assumes nothing.
-use mathlib.Core.Path.{ap, _∙_}
 use borrow.Author.Needs.{needs}
-use Rattle.arbiter.specs.declared.question.Verdict.{Verdict}
-use Rattle.arbiter.specs.Answers.{opened}
+use Rattle.arbiter.specs.Answers.Laws.{opened-same}
 use Rattle.arbiter.proofs.Answer.open.Statement.{statement}
 use Rattle.arbiter.proofs.Answer.open.Tie as tie
 
@@ -14,9 +12,7 @@ opened-requires : tie.Need-opened-requires
 opened-requires c κs = search needs
 
 returns : tie.Need-returns
-returns c =
-    let a = c .before .before .args in
-    c .opened .ensures ∙ ap (λ (v : Verdict). opened v (a .width) (a .picks) (a .head)) (c .before .state .ensures)
+returns c = opened-same _ _ _ (c .before .state .ensures) (c .opened .ensures)
 
 pub open-spec : {M : Type 1} → statement M
 open-spec = tie.close (tie.spec state-requires opened-requires returns)
