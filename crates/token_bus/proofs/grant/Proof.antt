@@ -48,20 +48,24 @@ some : (c : tie.After-first)
     first (Bus.granted (a .width) (a .token) (requested (a .requests .now))) ≡ At (c .first .given .0 .0)
 some c = sym (c .before .before .first-request .ensures) ∙ c .first .given .1
 
+-- and so it is a station
+below : (c : tie.After-first)
+    → let a = c .before .before .before .before .before .args in c .first .given .0 .0 < a .width
+below c =
+    let b = c .before .before .before .before .before in
+    granted-below (b .args .width) (b .args .token) (b .args .requests .now) (b .pre .0) _ (some c)
+
 slice-write-grants : tie.Need-slice-write-grants
 slice-write-grants c =
     let k = c .before in
     let b = k .before .before .before .before .before in
-    let a = b .args in
-    omega (
-      arith,
-      granted-below (a .width) (a .token) (a .requests .now) (b .pre .0) _ (some k),
-      ap length (b .pre .1 .1 .1),
-      length-replicate {A = ℕ} (a .width) 0,
-    )
+    omega (arith, below k, ap length (b .pre .1 .1 .1), length-replicate {A = ℕ} (b .args .width) 0)
 
 pass-requires-2 : tie.Need-pass-requires-2
-pass-requires-2 c κs = search needs
+pass-requires-2 c κs =
+    let k = c .before in
+    let b = k .before .before .before .before .before in
+    (omega (arith, b .pre .0, below k), b .pre .1 .0)
 
 same-length : tie.Need-same-length
 same-length c = search needs
