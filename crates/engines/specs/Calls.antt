@@ -11,6 +11,7 @@ use Rattle.tree.specs.Calls as Tree
 use Rattle.tree.specs.Calls.{Outcome}
 use Rattle.engines.specs.declared.Engine.{Engine}
 use Rattle.engines.specs.declared.Engine.the-variants.{Scan, Tree, Thermometer}
+pub mod Laws
 
 -- an engine's opening
 abbrev pub opening : Engine → ℕ → ℕ → Head → Answer

@@ -2,7 +2,7 @@
 -- the rule; of a refused one, that it changes nothing.
 -- Assumes nothing.
 use Prim.Native.Nat.{ℕ, _≤_, _<_}
-use mathlib.Core.Path.{_≡_, refl, sym, ap, _∙_}
+use mathlib.Core.Path.{_≡_, refl, sym, ap}
 use mathlib.Core.Bool.{Bool, true, false, cond}
 use mathlib.Core.List.{List, [], _∷_, map}
 use native.Mathlib.Omega.{arith}
@@ -19,15 +19,9 @@ use Rattle.rules.specs.RoundRobin.Laws as Laws
 use Rattle.rules.specs.Bus as BusRule
 use Rattle.arbiter.specs.declared.Answer.{Answer}
 use Rattle.arbiter.specs.declared.State.{State}
-use Rattle.arbiter.specs.declared.question.Verdict.{Verdict}
-use Rattle.arbiter.specs.Answers.{Outcome, moved, writes}
-use Rattle.arbiter.specs.Answers.Laws.{unwritten, served-passed, passed-is, if-refused, writes-passed, writes-is}
-use Rattle.arbiter.specs.Cycle as Cycle
-use Rattle.arbiter.specs.Questions.Laws as Asked
-use Rattle.tree.specs.Calls as Tree
-use Rattle.tree.specs.Calls.Laws as TreeLaws
-use Rattle.engines.specs.declared.Engine.{Engine}
-use Rattle.engines.specs.declared.Engine.the-variants.{Scan, Tree, Thermometer}
+use Rattle.arbiter.specs.Answers.{Outcome, moved}
+use Rattle.arbiter.specs.Answers.Laws.{writes-passed, writes-is, writes-refused}
+use Rattle.engines.specs.Calls.Laws.{Served, engine-served, engine-refused}
 use Rattle.token_bus.specs.Calls as Bus
 use Rattle.token_bus.specs.Calls.Laws as BusLaws
 use Rattle.fairness.specs.Cycles as Cycles
@@ -64,84 +58,12 @@ module _ {How : Type 0} (leaves : How → State → List ℕ → List ℕ → Ou
       (λ t. let r = serves h c (eqb-true _ 0 t) in (r .0, from (next h made) _ cs (r .1) (follows (next h made) cs)))
       (λ f. from h _ cs (refuses h c (eqb-false _ 0 f)) (follows h cs))
 
--- a call that writes and is refused changes nothing; `answer` is what it would answer if it were served
-writes-refused : (v : Verdict) (s : State) (answer : Answer) (target former : List ℕ) → answer .number ≡ 0
-    → let o = writes v s answer target former in
-    (o .answer .number ≡ 0 → ⊥) → (o .answer .state ≡ s) × (o .written ≡ former)
-writes-refused v s answer target former z n =
-    let fails : v .number ≡ 0 → ⊥ = λ p. n (ap (λ (o : Outcome). o .answer .number) (writes-is v s answer target former p) ∙ z) in
-    let u = unwritten answer target former refl fails refl in
-    (ap (λ (a : Answer). a .state) (sym (u .0)), sym (u .1))
-
--- a call that is served by the round-robin rule
-pub record Served (s : State) (requests : List ℕ) (o : Outcome) : Type 0 where
-  pub some : 0 < s .picks
-  pub head : start (s .head) < s .width
-  pub asked : length requests ≡ s .width
-  pub answers : o .answer ≡ Cycle.answer s requests
-  pub grants : o .written ≡ Cycle.granting s requests
-
-cycle-served : (s : State) (requests former : List ℕ) → let o = Cycle.cycle s requests former in o .answer .number ≡ 0 → Served s requests o
-cycle-served s requests former z =
-    let v = Cycle.questions s requests (length former) in
-    let p = writes-passed v s _ _ former z in
-    let r = Asked.ready (s .width) (s .picks) (s .head) requests (length former) refl p in
-    let is = writes-is v s (Cycle.answer s requests) (Cycle.granting s requests) former p in
-    record {
-      some = omega (arith, r .allows .picked);
-      head = r .allows .station;
-      asked = r .asked;
-      answers = ap (λ (o : Outcome). o .answer) is;
-      grants = ap (λ (o : Outcome). o .written) is;
-    }
-
--- the tree's cycle: its questions
-module _ (s : State) (requests former nodes : List ℕ) where
-  abbrev asked : Verdict
-  asked = Tree.questions (s .width) (s .picks) (s .head) requests (length former) (length nodes)
-
-  -- served, it is by the rule as well
-  tree-served : let o = Tree.cycle s requests former nodes in o .answer .number ≡ 0
-      → Served s requests (record { answer = o .answer; written = o .grants })
-  unfolding Tree.cycle
-  tree-served z =
-      let p = served-passed asked _ _ (λ (o : Tree.Outcome). o .answer .number) refl z in
-      let r = TreeLaws.ready (s .width) (s .picks) (s .head) requests (length former) (length nodes) refl p in
-      record {
-        some = omega (arith, r .allows .one);
-        head = r .allows .station;
-        asked = r .asked;
-        answers = ap (λ (o : Tree.Outcome). o .answer) (passed-is asked _ _ p);
-        grants = ap (λ (o : Tree.Outcome). o .grants) (passed-is asked _ _ p);
-      }
-
-  -- refused, it changes nothing
-  tree-refused : let o = Tree.cycle s requests former nodes in
-      (o .answer .number ≡ 0 → ⊥) → (o .answer .state ≡ s) × (o .grants ≡ former) × (o .nodes ≡ nodes)
-  unfolding Tree.cycle
-  tree-refused n =
-      let fails : asked .number ≡ 0 → ⊥ = λ p. n (ap (λ (o : Tree.Outcome). o .answer .number) (passed-is asked _ _ p)) in
-      let is = sym (if-refused _ refl fails refl) in (
-        ap (λ (o : Tree.Outcome). o .answer .state) is,
-        ap (λ (o : Tree.Outcome). o .grants) is,
-        ap (λ (o : Tree.Outcome). o .nodes) is,
-      )
-
--- so any call of the three follows the rule, or changes nothing
-engine-served : (e : Engine) (s : State) (requests former nodes : List ℕ)
-    → let o = cycle (record { engine = e; nodes = nodes }) s requests former in o .answer .number ≡ 0 → Served s requests o
-engine-served Scan s requests former nodes z = cycle-served s requests former z
-engine-served Tree s requests former nodes z = tree-served s requests former nodes z
-engine-served Thermometer s requests former nodes z = cycle-served s requests former z
-
 pub refused-unchanged : RefusedUnchanged
-refused-unchanged Scan s requests former nodes n = let u = writes-refused _ s _ _ former refl n in (u .0, u .1, refl)
-refused-unchanged Tree s requests former nodes n = tree-refused s requests former nodes n
-refused-unchanged Thermometer s requests former nodes n = let u = writes-refused _ s _ _ former refl n in (u .0, u .1, refl)
+refused-unchanged = engine-refused
 
 -- a served call of a list, with head h before it
 abbrev pub Right : State → Head → Made By → Type 0
-Right s h c = Served (moved s h) (c .call .requests) (c .left)
+Right s h c = Served (moved s h) (c .call .requests) (c .left .answer) (c .left .written)
 
 -- read as a cycle: the state's pick count, and who asks and who is granted by the bytes
 abbrev pub read : State → Made By → Cycles.Cycle
@@ -182,7 +104,7 @@ read-ruled : (s : State) (h : Head) (c : Made By) → Right s h c → Ruled (s .
 read-ruled s h c r = record {
   some = r .some;
   head = r .head;
-  granted = λ w. rw (r .grants) (marked (s .width) (s .picks) h (λ v. asks v c) w (r .head));
+  granted = λ w. rw (r .granted) (marked (s .width) (s .picks) h (λ v. asks v c) w (r .head));
 }
 
 -- and they follow one another by the rule

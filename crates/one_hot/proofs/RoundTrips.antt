@@ -12,7 +12,6 @@ use Rattle.rules.specs.declared.Head.the-variants.{None, At}
 use Rattle.rules.specs.RoundRobin.{start}
 use Rattle.rules.specs.RoundRobin.Laws.{start-none, start-at}
 use Rattle.arbiter.specs.declared.Answer.{Answer}
-use Rattle.arbiter.specs.declared.State.{State}
 use Rattle.arbiter.specs.Places.{places, ones}
 use Rattle.arbiter.specs.Places.Laws.{found}
 use Rattle.arbiter.specs.Questions as Questions

@@ -2,7 +2,7 @@
 -- say by their definition, and r the verdict that the call has in hand.
 -- Assumes nothing.
 use Prim.Native.Nat.{ℕ}
-use mathlib.Core.Path.{_≡_, refl, sym, _∙_}
+use mathlib.Core.Path.{_≡_, refl, sym, ap, _∙_}
 use mathlib.Core.List.{List}
 use lib.Dec.{eqb}
 use borrow.Author.Tests.{eq-eqb, ne-eqb, eqb-true}
@@ -63,6 +63,15 @@ pub writes-is : (v : Verdict) (s : State) (answer : Answer) (target former : Lis
     → writes v s answer target former ≡ record { answer = answer; written = target }
 unfolding writes
 writes-is v s answer target former z = passed-is v _ _ z
+
+-- refused, it changes nothing: `answer` is what it would answer if it were served
+pub writes-refused : (v : Verdict) (s : State) (answer : Answer) (target former : List ℕ) → answer .number ≡ 0
+    → let o = writes v s answer target former in
+    (o .answer .number ≡ 0 → ⊥) → (o .answer .state ≡ s) × (o .written ≡ former)
+writes-refused v s answer target former z n =
+    let fails : v .number ≡ 0 → ⊥ = λ p. n (ap (λ (o : Outcome). o .answer .number) (writes-is v s answer target former p) ∙ z) in
+    let u = unwritten answer target former refl fails refl in
+    (ap (λ (a : Answer). a .state) (sym (u .0)), sym (u .1))
 
 -- a call that makes a state, with the verdict in hand
 pub opened-same : {v r : Verdict} {x : Answer} (n m : ℕ) (h : Head) → r ≡ v → x ≡ opened r n m h → x ≡ opened v n m h

@@ -4,14 +4,12 @@ use Prim.Native.Nat.{ℕ, _+_, _%_, _<_}
 use mathlib.Core.Path.{_≡_, sym, _∙_}
 use mathlib.Core.Bool.{Bool}
 use mathlib.Core.List.{List, []}
-use lib.ListN.{length}
 use Rattle.rules.specs.declared.Head.{Head}
 use Rattle.rules.specs.declared.Head.the-variants.{At}
 use Rattle.rules.specs.Lists.Laws as Lists
 use Rattle.rules.specs.RoundRobin.{granted, next}
 use Rattle.rules.specs.RoundRobin.Laws as RoundRobin
 use Rattle.rules.specs.Walk.Laws.{Walked}
-use Rattle.arbiter.specs.declared.Decision.{Decision}
 use Rattle.arbiter.specs.Decisions.{decision, deciding}
 
 module _ (n m : ℕ) (h : Head) (asks : ℕ → Bool) where

@@ -8,7 +8,6 @@ use lib.ListN.{length, set, length-replicate}
 use borrow.Author.Needs.{needs}
 use Rattle.rules.specs.declared.Head.the-variants.{None, At}
 use Rattle.rules.specs.Bus as Bus
-use Rattle.arbiter.specs.declared.Decision.{Decision}
 use Rattle.arbiter.specs.Decisions.{requested}
 use Rattle.arbiter.specs.Places.{first}
 use Rattle.token_bus.specs.Calls.Laws.{idle-decides, idle-grants, granted-below, granted-decides, granted-grants}

@@ -17,7 +17,6 @@ use Rattle.rules.specs.RoundRobin.{start, order}
 use Rattle.rules.specs.RoundRobin.Laws as RoundRobin
 use Rattle.rules.specs.Bus as Bus
 use Rattle.rules.specs.Bus.Laws as BusLaws
-use Rattle.arbiter.specs.declared.Decision.{Decision}
 use Rattle.arbiter.specs.declared.question.Verdict.{Verdict}
 use Rattle.arbiter.specs.Places.{ones, first}
 use Rattle.arbiter.specs.Places.Laws.{first-none, first-some}
