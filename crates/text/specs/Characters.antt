@@ -5,6 +5,7 @@ use mathlib.Core.Bool.{cond}
 use mathlib.Core.List.{List, [], _∷_, _++_, map}
 use lib.Dec.{eqb, ltb}
 pub mod Laws
+pub mod Known
 
 -- what ends a line
 abbrev pub lineFeed : ℕ
