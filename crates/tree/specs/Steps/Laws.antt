@@ -1,4 +1,4 @@
--- Laws of the steps: the station that the descent reached, with its request, decides what the node buffer does.
+-- Laws of the steps: what is decided at the station that the descent reached, with its request, is what the node buffer decides.
 -- Assumes nothing.
 use Prim.Native.Nat.{ℕ, _+_, _%_, _≤_}
 use mathlib.Core.Path.{_≡_, refl}
