@@ -1,4 +1,5 @@
 pub mod Places
+pub mod Words
 pub mod Questions
 pub mod Decisions
 pub mod Answers

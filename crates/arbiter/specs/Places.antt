@@ -1,6 +1,6 @@
--- The places of a buffer at which a byte passes a test.
+-- The bytes of a buffer: the places at which a byte passes a test, and the highest byte.
 -- Assumes nothing.
-use Prim.Native.Nat.{ℕ, _-_}
+use Prim.Native.Nat.{ℕ, _-_, _≤_, _<_, max}
 use mathlib.Core.Bool.{Bool}
 use mathlib.Core.List.{List, [], _∷_}
 use lib.Dec.{eqb}
@@ -22,3 +22,12 @@ ones from bytes = places (λ b. eqb b 1) from bytes
 abbrev pub first : List ℕ → Head
 first [] = None
 first (p ∷ ps) = At p
+
+-- every byte is 0 or 1
+abbrev pub Bits : List ℕ → Type 0
+Bits bytes = (i : ℕ) → i < length bytes → getD bytes i 0 ≤ 1
+
+-- the highest byte, 0 where there is none
+pub highest : List ℕ → ℕ
+highest [] = 0
+highest (b ∷ bs) = max b (highest bs)

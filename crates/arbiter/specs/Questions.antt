@@ -9,8 +9,9 @@ use Rattle.rules.specs.declared.Head.{Head}
 use Rattle.rules.specs.declared.Head.the-variants.{None, At}
 use Rattle.rules.specs.Lists.{range, member}
 use Rattle.rules.specs.Thermometer.{isCode}
+use Rattle.arbiter.specs.declared.question.Reading.{Reading}
 use Rattle.arbiter.specs.declared.question.Verdict.{Verdict}
-use Rattle.arbiter.specs.Places.{places, ones}
+use Rattle.arbiter.specs.Places.{places, ones, highest}
 pub mod Laws
 pub mod Known
 
@@ -83,6 +84,14 @@ nodesLength n length = refuseUnless (eqb length (2 * n)) 7 0
 abbrev pub bits : ℕ → List ℕ → Verdict
 bits from bytes = refuseAtFirst 8 (places (ltb 1) from bytes)
 
+-- 8 after questions that read nothing: the verdict, and the highest byte, 0 where they refuse
+abbrev pub read : Verdict → List ℕ → Reading
+read unread bytes =
+    record {
+      verdict = unread then bits 0 bytes;
+      highest = cond (eqb (unread .number) 0) (highest bytes) 0;
+    }
+
 -- 9: "Is acknowledge 0 or 1?"
 abbrev pub acknowledge : ℕ → Verdict
 acknowledge a = refuseUnless (leb a 1) 9 0
@@ -104,5 +113,5 @@ abbrev pub write : ℕ → ℕ → Head → ℕ → ℕ → Verdict
 write n m h stated length = state n m h then writeLength stated length
 
 -- those of a cycle with these requests and a grant buffer of this length: 1, 3, 4, 5, 6 and 8
-abbrev pub cycle : ℕ → ℕ → Head → List ℕ → ℕ → Verdict
-cycle n m h requests size = state n m h then readLength n (length requests) then writeLength n size then bits 0 requests
+abbrev pub cycle : ℕ → ℕ → Head → List ℕ → ℕ → Reading
+cycle n m h requests size = read (state n m h then readLength n (length requests) then writeLength n size) requests

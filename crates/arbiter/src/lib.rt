@@ -1,6 +1,7 @@
 // The state of an arbiter, the answer of a call, the questions that calls ask, and what a cycle decides.
 pub mod question;
 pub mod refusal;
+pub mod search;
 
 use question::Verdict;
 use rules::Head;
@@ -12,7 +13,6 @@ ghost use Rattle.rules.specs.RoundRobin.{start};
 ghost use Rattle.arbiter.specs.Answers as Answers;
 ghost use Rattle.arbiter.specs.Cycle as Cycle;
 ghost use Rattle.arbiter.specs.Decisions as Decisions;
-ghost use Rattle.arbiter.specs.Places as Places;
 
 // The most stations.
 pub const MAX_WIDTH: usize = 256;
@@ -144,18 +144,4 @@ pub fn clear(bytes: &mut [u8])
         bytes[i] = 0;
         i += 1;
     }
-}
-
-// The place of the first 1 from `from` on, or none.
-pub fn first_one(from: usize, bytes: &[u8]) -> Head
-    ensures { λ r. ⌜ r ≡ Places.first (Places.ones from (now (bytes .entry))) ⌝ }
-{
-    let mut i = from;
-    while i < bytes.len() {
-        if bytes[i] == 1 {
-            return Head::At(i);
-        }
-        i += 1;
-    }
-    Head::None
 }

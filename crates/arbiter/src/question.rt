@@ -3,6 +3,7 @@
 use crate::MAX_PICKS;
 use crate::MAX_WIDTH;
 use crate::refusal;
+use crate::search::highest;
 use rules::Head;
 ghost use mathlib.Core.Path.{_≡_};
 ghost use Rattle.arbiter.specs.Questions as Questions;
@@ -12,6 +13,12 @@ ghost use Rattle.arbiter.specs.Questions.{_then_};
 pub struct Verdict {
     pub number: usize,
     pub place: usize,
+}
+
+// What the questions say of a call that reads bits: the verdict, and the highest byte, 0 where the bytes were not read.
+pub struct Reading {
+    pub verdict: Verdict,
+    pub highest: u8,
 }
 
 impl Verdict {
@@ -102,6 +109,30 @@ pub fn bits(from: usize, bytes: &[u8]) -> Verdict
     refuse_unless(true, refusal::NOT_A_BIT, 0)
 }
 
+// Question 8 after others that read nothing, whose verdict is `unread`. Where those refuse it does not read either; and a place
+// is looked for only where the highest byte shows that there is one.
+pub fn read(unread: Verdict, bytes: &[u8]) -> Reading
+    ensures { λ r. ⌜ r ≡ Questions.read unread (now (bytes .entry)) ⌝ }
+{
+    if unread.number != refusal::SERVED {
+        return Reading {
+            verdict: unread,
+            highest: 0,
+        };
+    }
+    let high = highest(bytes);
+    if high <= 1 {
+        return Reading {
+            verdict: refuse_unless(true, refusal::NOT_A_BIT, 0),
+            highest: high,
+        };
+    }
+    Reading {
+        verdict: bits(0, bytes),
+        highest: high,
+    }
+}
+
 // Questions 1, 3 and 4.
 pub fn state(width: usize, picks: usize, head: Head) -> Verdict
     ensures { λ r. ⌜ r ≡ Questions.state width picks head ⌝ }
@@ -122,16 +153,17 @@ pub fn write(width: usize, picks: usize, head: Head, stated: usize, length: usiz
 }
 
 // Questions 1, 3, 4, 5, 6 and 8 of a cycle of the plain scan or the thermometer arbiter, whose grant buffer has `length` bytes.
-// The requests are read last.
-pub fn cycle(width: usize, picks: usize, head: Head, requests: &[u8], length: usize) -> Verdict
+pub fn cycle(
+    width: usize,
+    picks: usize,
+    head: Head,
+    requests: &[u8],
+    length: usize,
+) -> Reading
     ensures { λ r. ⌜ r ≡ Questions.cycle width picks head (now (requests .entry)) length ⌝ }
 {
     let by_state = state(width, picks, head);
     let by_requests = read_length(width, requests.len());
     let by_grants = write_length(width, length);
-    let unread = by_state.then(by_requests).then(by_grants);
-    if unread.number != refusal::SERVED {
-        return unread;
-    }
-    bits(0, requests)
+    read(by_state.then(by_requests).then(by_grants), requests)
 }

@@ -1,16 +1,19 @@
--- Laws of places: how a search finds the first.
+-- Laws of places: how a search finds the first; and of the highest byte.
 -- Assumes nothing.
-use Prim.Native.Nat.{ℕ, suc, _+_, _-_, _≤_, _<_}
-use mathlib.Core.Path.{_≡_, refl, ap, _∙_}
+use Prim.Native.Nat.{ℕ, zero, suc, _+_, _-_, _≤_, _<_, max}
+use mathlib.Core.Path.{_≡_, refl, sym, ap, _∙_}
 use mathlib.Core.Bool.{Bool, true, false}
 use mathlib.Core.List.{List, [], _∷_}
+use native.Mathlib.Numerals.{add-one}
 use native.Mathlib.Omega.{arith}
-use lib.Dec.{eqb}
-use lib.ListN.{length, getD}
-use borrow.Author.Tests.{eqb-true, eqb-false}
+use lib.Dec.{eqb, ltb}
+use lib.ListN.{length, getD, drop, drop-of-length-le}
+use lib.Seq.{drop-cons}
+use borrow.Author.Tests.{eqb-true, eqb-false, ltb-true, ltb-false}
 use Rattle.rules.specs.declared.Head.the-variants.{None, At}
+use Rattle.rules.specs.Lists.{range, filter}
 use Rattle.rules.specs.Lists.Laws as Lists
-use Rattle.arbiter.specs.Places.{places, first}
+use Rattle.arbiter.specs.Places.{places, first, Bits, highest}
 
 -- a list without a first is empty
 pub first-none : (ps : List ℕ) → first ps ≡ None → ps ≡ []
@@ -42,6 +45,17 @@ module _ {test : ℕ → Bool} {from i : ℕ} {bytes : List ℕ} (free : Free te
             (λ q. free .at k l (omega (arith, eqb-false k i q)));
       }
 
+  -- and several
+  pub free-on : {j : ℕ} → ((k : ℕ) → i ≤ k → k < j → test (getD bytes k 0) ≡ false) → Free test from j bytes
+  free-on e =
+      record {
+        at =
+            λ k l u.
+            Lists.split (ltb k i)
+            (λ q. free .at k l (ltb-true k i q))
+            (λ q. e k (ltb-false k i q) u);
+      }
+
   -- a search that comes to the end has found nothing
   pub places-none : length bytes ≤ i → places test from bytes ≡ []
   places-none l =
@@ -55,11 +69,34 @@ module _ {test : ℕ → Bool} {from i : ℕ} {bytes : List ℕ} (free : Free te
       Lists.filter-first (λ k. test (getD bytes k 0)) from (length bytes - from) i l (omega arith) (free .at) t
       ∙ rw left
 
--- what a search has found: a place of the buffer, and after it come the places from the next one on
+  -- it may be left to another that goes on from there
+  pub places-on : from ≤ i → places test i bytes ≡ places test from bytes
+  places-on l =
+      Lists.split (ltb i (length bytes))
+      (λ q.
+      let n = i - from in
+      let k = length bytes - i in
+      let room : i < length bytes = ltb-true i (length bytes) q in
+      let all : length bytes - from ≡ n + k = omega arith in
+      let here : from + n ≡ i = omega arith in
+      let p : ℕ → Bool = λ w. test (getD bytes w 0) in
+      sym (
+        ap (λ (m : ℕ). filter p (range from m)) all ∙ ap (filter p) (Lists.range-append from n k)
+        ∙ Lists.filter-append p (range from n) (range (from + n) k)
+        ∙ rw (Lists.filter-none p from n (λ w a b. free .at w a (omega arith)), here)
+      ))
+      (λ q.
+      let past : length bytes ≤ i = ltb-false i (length bytes) q in
+      let none : length bytes - i ≡ 0 = omega arith in
+      let empty : places test i bytes ≡ [] = rw none in
+      empty ∙ sym (places-none past))
+
+-- what a search has found: the first such place of the buffer, and after it come the places from the next one on
 pub record Found (test : ℕ → Bool) (from i : ℕ) (bytes : List ℕ) : Type 0 where
   pub low : from ≤ i
   pub high : i < length bytes
   pub passes : test (getD bytes i 0) ≡ true
+  pub free : Free test from i bytes
   pub all : places test from bytes ≡ i ∷ places test (suc i) bytes
 
 pub found : (test : ℕ → Bool) (from i : ℕ) (bytes : List ℕ) → first (places test from bytes) ≡ At i → Found test from i bytes
@@ -71,6 +108,7 @@ found test from i bytes e =
       low = r .low;
       high = omega (arith, r .low, r .high);
       passes = r .passes;
+      free = record { at = r .earlier };
       all = q .1 ∙ rw (r .rest, left);
     }
 
@@ -78,3 +116,32 @@ found test from i bytes e =
 pub free-of : {test : ℕ → Bool} {from : ℕ} {bytes : List ℕ} → places test from bytes ≡ [] → Free test from (length bytes) bytes
 free-of {test} {from} {bytes} e =
     record { at = λ k l u. Lists.none-of (λ i. test (getD bytes i 0)) from (length bytes - from) k e l (omega arith) }
+
+-- the highest byte of those from a place on
+pub highest-none : (bytes : List ℕ) (i : ℕ) → length bytes ≤ i → highest (drop i bytes) ≡ 0
+unfolding highest
+highest-none bytes i l = ap highest (drop-of-length-le bytes l)
+
+pub highest-next : (bytes : List ℕ) (i : ℕ) → i < length bytes
+    → highest (drop i bytes) ≡ max (getD bytes i 0) (highest (drop (i + 1) bytes))
+unfolding highest
+highest-next bytes i l = ap highest (drop-cons bytes i 0 l) ∙ rw add-one
+
+-- no byte is higher, and one is as high
+pub highest-most : (bytes : List ℕ) (i : ℕ) → getD bytes i 0 ≤ highest bytes
+unfolding highest
+highest-most [] i = omega arith
+highest-most (b ∷ bs) zero = omega arith
+highest-most (b ∷ bs) (suc i) = omega (arith, highest-most bs i)
+
+pub highest-least : (bytes : List ℕ) (m : ℕ) → ((i : ℕ) → i < length bytes → getD bytes i 0 ≤ m) → highest bytes ≤ m
+unfolding highest
+highest-least [] m l = omega arith
+highest-least (b ∷ bs) m l = omega (arith, l 0 (omega arith), highest-least bs m (λ i u. l (suc i) (omega arith)))
+
+-- it is at most 1 exactly if every byte is 0 or 1
+pub highest-bits : (bytes : List ℕ) → highest bytes ≤ 1 → Bits bytes
+highest-bits bytes l i u = omega (arith, highest-most bytes i)
+
+pub bits-highest : (bytes : List ℕ) → Bits bytes → highest bytes ≤ 1
+bits-highest bytes b = highest-least bytes 1 b

@@ -7,16 +7,17 @@ use mathlib.Core.List.{List, [], _∷_}
 use native.Mathlib.Omega.{arith}
 use lib.Dec.{eqb, leb, ltb}
 use lib.ListN.{length, getD}
-use borrow.Author.Tests.{eq-eqb, ne-eqb, eqb-true, eqb-false, leb-true, ltb-true, ltb-false, le-leb, lt-ltb}
+use borrow.Author.Tests.{eq-eqb, ne-eqb, eqb-true, eqb-false, leb-true, ltb-true, ltb-false, le-leb, lt-ltb, le-ltb}
 use Rattle.rules.specs.declared.Head.{Head}
 use Rattle.rules.specs.declared.Head.the-variants.{None, At}
 use Rattle.rules.specs.Lists.Laws as Lists
 use Rattle.rules.specs.RoundRobin.{start}
 use Rattle.rules.specs.RoundRobin.Laws as RoundRobin
+use Rattle.arbiter.specs.declared.question.Reading.{Reading}
 use Rattle.arbiter.specs.declared.question.Verdict.{Verdict}
-use Rattle.arbiter.specs.Places.{first}
-use Rattle.arbiter.specs.Places.Laws.{first-none, first-some, free-of}
-use Rattle.arbiter.specs.Questions.{refuseUnless, refuseAtFirst, _then_, maxWidth, width, treeWidth, picks, onePick, head, token, readLength, writeLength, bits, state, write, cycle}
+use Rattle.arbiter.specs.Places.{first, Bits, highest}
+use Rattle.arbiter.specs.Places.Laws.{first-none, first-some, Free, free-of, places-none, highest-bits, bits-highest}
+use Rattle.arbiter.specs.Questions.{refuseUnless, refuseAtFirst, _then_, maxWidth, width, treeWidth, picks, onePick, head, token, readLength, writeLength, bits, read, state, write, cycle}
 
 -- r is the verdict on a, the first question. If it refuses, it decides
 pub refused : {a r : Verdict} (b : Verdict) → r ≡ a → (r .number ≡ 0 → ⊥) → r ≡ (a then b)
@@ -105,9 +106,35 @@ token-served n (At t) z = (t, ltb-true t n (unless-served _ 3 0 z), refl)
 pub length-served : (k stated length : ℕ) → (refuseUnless (eqb length stated) (suc k) 0) .number ≡ 0 → length ≡ stated
 length-served k stated length z = eqb-true length stated (unless-served _ k 0 z)
 
-pub bits-served : (bytes : List ℕ) → (bits 0 bytes) .number ≡ 0 → (i : ℕ) → i < length bytes → getD bytes i 0 ≤ 1
+pub bits-served : (bytes : List ℕ) → (bits 0 bytes) .number ≡ 0 → Bits bytes
 bits-served bytes z i l =
     let none = free-of {test = ltb 1} {from = 0} {bytes = bytes} (first-served 7 _ z) in ltb-false 1 (getD bytes i 0) (none .at i (omega arith) l)
+
+-- 8 passes exactly if the highest byte is at most 1
+pub highest-served : (bytes : List ℕ) → (bits 0 bytes) .number ≡ 0 → highest bytes ≤ 1
+highest-served bytes z = bits-highest bytes (bits-served bytes z)
+
+pub highest-passes : (bytes : List ℕ) → highest bytes ≤ 1 → bits 0 bytes ≡ refuseUnless true 8 0
+highest-passes bytes l =
+    let free : Free (ltb 1) 0 (length bytes) bytes =
+    record { at = λ k a u. le-ltb 1 (getD bytes k 0) (highest-bits bytes l k u) } in
+    ap (refuseAtFirst 8) (places-none free (omega arith))
+
+-- what is known once 8 and the questions before it have passed: `high` is the highest byte in hand
+pub record Read (unread : Verdict) (bytes : List ℕ) (high : ℕ) : Type 0 where
+  pub before : unread .number ≡ 0
+  pub bits : Bits bytes
+  pub heard : high ≡ highest bytes
+
+pub read-served : {r : Reading} (unread : Verdict) (bytes : List ℕ) → r ≡ read unread bytes → r .verdict .number ≡ 0
+    → Read unread bytes (r .highest)
+read-served unread bytes e z =
+    let both = then-served unread (bits 0 bytes) (ap (λ (r : Reading). r .verdict .number) (sym e) ∙ z) in
+    record {
+      before = both .0;
+      bits = bits-served bytes (both .1);
+      heard = ap (λ (r : Reading). r .highest) e ∙ rw (eq-eqb (unread .number) 0 (both .0));
+    }
 
 pub allowed : (n m : ℕ) (h : Head) → (state n m h) .number ≡ 0 → Allowed n m h
 allowed n m h z =
@@ -135,27 +162,27 @@ writable n m h stated length e z =
     let both = then-served (state n m h) (writeLength stated length) (ap (λ (v : Verdict). v .number) (sym e) ∙ z) in
     record { allows = allowed n m h (both .0); long = length-served 5 stated length (both .1) }
 
--- what is known of a cycle once 1, 3, 4, 5, 6 and 8 have passed: r is its verdict
-pub record Ready (n m : ℕ) (h : Head) (requests : List ℕ) (size : ℕ) : Type 0 where
+-- what is known of a cycle once 1, 3, 4, 5, 6 and 8 have passed: r is what they say
+pub record Ready (n m : ℕ) (h : Head) (requests : List ℕ) (size high : ℕ) : Type 0 where
   pub allows : Allowed n m h
   pub asked : length requests ≡ n
   pub room : size ≡ n
-  pub wires : (i : ℕ) → i < n → getD requests i 0 ≤ 1
+  pub wires : Bits requests
+  pub heard : high ≡ highest requests
 
-pub ready : {r : Verdict} (n m : ℕ) (h : Head) (requests : List ℕ) (size : ℕ) → r ≡ cycle n m h requests size → r .number ≡ 0
-    → Ready n m h requests size
+pub ready : {r : Reading} (n m : ℕ) (h : Head) (requests : List ℕ) (size : ℕ) → r ≡ cycle n m h requests size
+    → r .verdict .number ≡ 0 → Ready n m h requests size (r .highest)
 ready n m h requests size e z =
     let five = state n m h then readLength n (length requests) in
-    let six = five then writeLength n size in
-    let c = then-served six (bits 0 requests) (ap (λ (v : Verdict). v .number) (sym e) ∙ z) in
-    let b = then-served five (writeLength n size) (c .0) in
+    let c = read-served (five then writeLength n size) requests e z in
+    let b = then-served five (writeLength n size) (c .before) in
     let a = then-served (state n m h) (readLength n (length requests)) (b .0) in
-    let long = length-served 4 n (length requests) (a .1) in
     record {
       allows = allowed n m h (a .0);
-      asked = long;
+      asked = length-served 4 n (length requests) (a .1);
       room = length-served 5 n size (b .1);
-      wires = λ i l. bits-served requests (c .1) i (omega (arith, long));
+      wires = c .bits;
+      heard = c .heard;
     }
 
 -- questions that pass

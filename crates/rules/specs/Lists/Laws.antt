@@ -351,6 +351,7 @@ pub record First (p : ℕ → Bool) (a k w : ℕ) (ws : List ℕ) : Type 0 where
   pub low : a ≤ w
   pub high : w < a + k
   pub passes : p w ≡ true
+  pub earlier : (i : ℕ) → a ≤ i → i < w → p i ≡ false
   pub rest : ws ≡ filter p (range (suc w) (a + k - suc w))
 
 pub first-of : (p : ℕ → Bool) (a k w : ℕ) (ws : List ℕ) → filter p (range a k) ≡ w ∷ ws → First p a k w ws
@@ -365,6 +366,7 @@ first-of p a (suc k) w ws e =
       low = omega arith;
       high = omega arith;
       passes = rw same at t;
+      earlier = λ i l u. absurd (omega arith);
       rest = rw (← left, ← same) (cc);
     })
     (λ t.
@@ -375,6 +377,11 @@ first-of p a (suc k) w ws e =
       low = omega (arith, r .low);
       high = omega (arith, r .high);
       passes = r .passes;
+      earlier =
+          λ i l u.
+          split (eqb i a)
+          (λ q. rw (eqb-true i a q) t)
+          (λ q. r .earlier i (omega (arith, eqb-false i a q)) u);
       rest = rw (← left) (r .rest);
     })
 
@@ -393,16 +400,27 @@ count-next p from i l =
     ∙ count-append p (range from (i - from)) ((from + (i - from)) ∷ [])
     ∙ rw here (omega arith)
 
+-- and several
+count-parts : (p : ℕ → Bool) (from i to : ℕ) → from ≤ i → i ≤ to
+    → count p (range from (to - from)) ≡ count p (range from (i - from)) + count p (range i (to - i))
+count-parts p from i to l u =
+    let parts : to - from ≡ (i - from) + (to - i) = omega arith in
+    let here : from + (i - from) ≡ i = omega arith in
+    ap (λ (k : ℕ). count p (range from k)) parts
+    ∙ ap (count p) (range-append from (i - from) (to - i))
+    ∙ count-append p (range from (i - from)) (range (from + (i - from)) (to - i))
+    ∙ rw here
+
 -- a longer range counts no fewer
 pub count-more : (p : ℕ → Bool) (from i to : ℕ) → from ≤ i → i ≤ to → count p (range from (i - from)) ≤ count p (range from (to - from))
-count-more p from i to l u =
-    let parts : to - from ≡ (i - from) + (to - i) = omega arith in
-    omega (
-      arith,
-      ap (λ (k : ℕ). count p (range from k)) parts,
-      ap (count p) (range-append from (i - from) (to - i)),
-      count-append p (range from (i - from)) (range (from + (i - from)) (to - i)),
-    )
+count-more p from i to l u = omega (arith, count-parts p from i to l u)
+
+-- and no more where none of those passes
+pub count-same : (p : ℕ → Bool) (from i to : ℕ) → from ≤ i → i ≤ to → ((w : ℕ) → i ≤ w → w < to → p w ≡ false)
+    → count p (range from (to - from)) ≡ count p (range from (i - from))
+count-same p from i to l u none =
+    let over = filter-none p i (to - i) (λ w a b. none w a (omega arith)) in
+    omega (arith, count-parts p from i to l u, length-filter p (range i (to - i)), ap length over)
 
 -- the first that a filter leaves passes, and nobody before it does
 pub first-left : (p : ℕ → Bool) (xs : List ℕ) (w : ℕ) (ws : List ℕ) → filter p xs ≡ w ∷ ws

@@ -35,22 +35,26 @@ module _ (m : ℕ) (asks : ℕ → Bool) (from c₀ z₀ : ℕ) (old : List ℕ)
       }
 
   module _ (i : ℕ) (at : from ≤ i) (c z : ℕ) (new : List ℕ) (r : Ran m asks from i c₀ z₀ old c z new) where
-    -- past a station that does not ask
-    pub skip : asks i ≡ false → Ran m asks from (i + 1) c₀ z₀ old c z new
-    skip f =
+    -- past stations that do not ask
+    pub quiet : (to : ℕ) → i ≤ to → ((w : ℕ) → i ≤ w → w < to → asks w ≡ false) → Ran m asks from to c₀ z₀ old c z new
+    quiet to u none =
         record {
-          counted = omega (arith, r .counted, Lists.count-next asks from i at, ap bit f);
+          counted = omega (arith, r .counted, Lists.count-same asks from i to at u none);
           here =
               λ w a b.
-              Lists.split (eqb w i)
-              (λ e. let same : w ≡ i = eqb-true w i e in rw (same, f) (r .above i (omega arith)))
-              (λ e. r .here w a (omega (arith, eqb-false w i e)));
+              Lists.split (ltb w i)
+              (λ t. r .here w a (ltb-true w i t))
+              (λ f. let past : i ≤ w = ltb-false w i f in rw (none w past b) (r .above w past));
           below = r .below;
           above = λ w a. r .above w (omega arith);
           long = r .long;
           none = r .none;
           some = λ a. let l = r .some a in (l .0, omega (arith, l .1), l .2, l .3);
         }
+
+    -- past one
+    pub skip : asks i ≡ false → Ran m asks from (i + 1) c₀ z₀ old c z new
+    skip f = quiet (i + 1) (omega arith) (λ w a b. let same : w ≡ i = omega arith in rw same f)
 
     -- past a station that asks and is granted
     pub grant : asks i ≡ true → c < m → i < length new

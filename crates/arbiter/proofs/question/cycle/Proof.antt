@@ -1,11 +1,10 @@
 -- `cycle` meets its contract: the questions in their order.
 -- Assumes nothing.
-use mathlib.Core.Path.{_≡_}
-use lib.ListN.{length}
+use mathlib.Core.Path.{ap, _∙_}
 use borrow.Author.Needs.{needs}
+use Rattle.arbiter.specs.declared.question.Verdict.{Verdict}
 use Rattle.arbiter.specs.Questions as Questions
-use Rattle.arbiter.specs.Questions.{_then_}
-use Rattle.arbiter.specs.Questions.Laws.{chained, refused, passed}
+use Rattle.arbiter.specs.Questions.Laws.{chained}
 use Rattle.arbiter.proofs.question.cycle.Statement.{statement}
 use Rattle.arbiter.proofs.question.cycle.Tie as tie
 
@@ -24,24 +23,17 @@ then-requires c κs = search needs
 then-requires-2 : tie.Need-then-requires-2
 then-requires-2 c κs = search needs
 
--- what is asked before the requests are read
-unread : (c : tie.After-then2)
-    → let a = c .before .before .before .before .before .before .args in
-    c .then2 .result
-    ≡ (Questions.state (a .width) (a .picks) (a .head) then Questions.readLength (a .width) (length (a .requests .now)) then Questions.writeLength (a .width) (a .length))
-unread c =
-    let w = c .before .before in
-    let r = w .before in
-    chained (c .then2 .ensures) (chained (c .before .then .ensures) (r .before .state .ensures) (r .read-length .ensures)) (w .write-length .ensures)
+read-requires : tie.Need-read-requires
+read-requires c κs = search needs
 
 returns : tie.Need-returns
-returns c = refused _ (unread (c .before .before)) (c .if1 .taken)
-
-bits-requires : tie.Need-bits-requires
-bits-requires c κs = search needs
-
-returns-2 : tie.Need-returns-2
-returns-2 c = passed (unread (c .before .before .before)) (c .before .if1 .left) (c .bits .ensures)
+returns c =
+    let t = c .before in
+    let w = t .before .before in
+    let r = w .before in
+    let a = r .before .before .before .args in
+    let unread = chained (t .then2 .ensures) (chained (t .before .then .ensures) (r .before .state .ensures) (r .read-length .ensures)) (w .write-length .ensures) in
+    c .read .ensures ∙ ap (λ (v : Verdict). Questions.read v (a .requests .now)) unread
 
 pub cycle-spec : {M : Type 1} → statement M
 cycle-spec =
@@ -52,6 +44,5 @@ cycle-spec =
     write-length-requires
     then-requires
     then-requires-2
-    returns
-    bits-requires
-    returns-2)
+    read-requires
+    returns)

@@ -1,4 +1,4 @@
--- `first_one` meets its contract: no byte that it passed is 1.
+-- `first_of_few` meets its contract: no byte that it passed is 1.
 -- Assumes nothing.
 use Prim.Native.Nat.{_≤_, _-_}
 use lib.Dec.{eqb}
@@ -8,8 +8,8 @@ use lib.ListN.{length}
 use borrow.Author.Tests.{eq-eqb, ne-eqb}
 use Rattle.arbiter.specs.Places.{first}
 use Rattle.arbiter.specs.Places.Laws.{Free, free-none, free-more, places-none, places-first}
-use Rattle.arbiter.proofs.first_one.Statement.{statement}
-use Rattle.arbiter.proofs.first_one.Tie as tie
+use Rattle.arbiter.proofs.search.first_of_few.Statement.{statement}
+use Rattle.arbiter.proofs.search.first_of_few.Tie as tie
 
 abbrev Inv-loop : tie.InvT-loop
 Inv-loop from bytes i₀ i = (from ≤ i) × Free (λ b. eqb b 1) from i bytes
@@ -38,8 +38,8 @@ loop-again c = (omega arith, free-more (c .before .before .before .loop .inv .1)
 returns-2 : tie.Need-returns-2 Inv-loop μ-loop
 returns-2 c = sym (ap first (places-none (c .before .loop .inv .1) (c .loop-test .left)))
 
-pub first-one-spec : {M : Type 1} → statement M
-first-one-spec =
+pub first-of-few-spec : {M : Type 1} → statement M
+first-of-few-spec =
     tie.close
     (tie.spec
     Inv-loop

@@ -1,0 +1,90 @@
+// Searching bytes: the highest of them, and the first 1.
+use rules::Head;
+ghost use mathlib.Core.Path.{_≡_};
+ghost use Prim.Native.Nat.{_+_, _/_, _≤_, _<_};
+ghost use lib.Count.{trailingZeros};
+ghost use lib.ListN.{length, take, drop};
+ghost use Rattle.arbiter.specs.Places as Places;
+ghost use Rattle.arbiter.specs.Words as Words;
+
+// The highest byte, or 0 where there is none. It reads every byte and never returns early, so that many are compared at once.
+pub fn highest(bytes: &[u8]) -> u8
+    ensures { λ r. ⌜ r ≡ Places.highest (now (bytes .entry)) ⌝ }
+{
+    let mut high: u8 = 0;
+    let mut i: usize = 0;
+    while i < bytes.len() {
+        if high < bytes[i] {
+            high = bytes[i];
+        }
+        i += 1;
+    }
+    high
+}
+
+// The place of the first 1 from `from` on, or none. It looks at eight bytes at a time, and at the last few one by one.
+pub fn first_one(from: usize, bytes: &[u8]) -> Head
+    ensures { λ r. ⌜ r ≡ Places.first (Places.ones from (now (bytes .entry))) ⌝ }
+{
+    if bytes.len() < 8 {
+        return first_of_few(from, bytes);
+    }
+    let last = bytes.len() - 8;
+    let mut i = from;
+    while i <= last {
+        let eight = word(bytes, i);
+        if eight == 0 {
+            i += 8;
+        } else {
+            let place = i + lowest_byte(eight);
+            if bytes[place] == 1 {
+                return Head::At(place);
+            }
+            i = place + 1;
+        }
+    }
+    first_of_few(i, bytes)
+}
+
+// The same, one byte at a time.
+fn first_of_few(from: usize, bytes: &[u8]) -> Head
+    ensures { λ r. ⌜ r ≡ Places.first (Places.ones from (now (bytes .entry))) ⌝ }
+{
+    let mut i = from;
+    while i < bytes.len() {
+        if bytes[i] == 1 {
+            return Head::At(i);
+        }
+        i += 1;
+    }
+    Head::None
+}
+
+// The eight bytes from `i` on as one number, the first of them lowest. The compiler makes one load of it.
+fn word(bytes: &[u8], i: usize) -> u64
+    requires { ⌜ i + 8 ≤ length (now bytes) ⌝ }
+    ensures { λ r. ⌜ r ≡ Words.number (take 8 (drop i (now (bytes .entry)))) ⌝ }
+{
+    wide(bytes[i])
+        + wide(bytes[i + 1]) * 0x100
+        + wide(bytes[i + 2]) * 0x1_0000
+        + wide(bytes[i + 3]) * 0x100_0000
+        + wide(bytes[i + 4]) * 0x1_0000_0000
+        + wide(bytes[i + 5]) * 0x100_0000_0000
+        + wide(bytes[i + 6]) * 0x1_0000_0000_0000
+        + wide(bytes[i + 7]) * 0x100_0000_0000_0000
+}
+
+// A byte as a wide number.
+fn wide(byte: u8) -> u64
+    ensures { λ r. ⌜ (r ≡ byte) × (r < 256) ⌝ }
+{
+    byte as u64
+}
+
+// Which byte of a number is the lowest that is not 0: 8 where all are.
+fn lowest_byte(word: u64) -> usize
+    ensures { λ r. ⌜ r ≡ trailingZeros 64 word / 8 ⌝ }
+{
+    (u64::trailing_zeros(word) / 8) as usize
+}
