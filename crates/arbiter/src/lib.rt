@@ -115,6 +115,31 @@ pub fn idle(width: usize, head: Head) -> Decision
     }
 }
 
+// What a cycle decides that grants `count` stations, `last` the last of them: the next head is one past it. With a count of 0 it
+// grants no one.
+pub fn decide(width: usize, head: Head, count: usize, last: usize) -> Decision
+    ensures { λ r. ⌜ r ≡ Decisions.counted width head count last ⌝ }
+{
+    if count == 0 {
+        return idle(width, head);
+    }
+    let next = past(width, last);
+    Decision {
+        count,
+        next: Head::At(next),
+    }
+}
+
+// One past a station: 0 after the last, or after a number that is no station's.
+pub fn past(width: usize, station: usize) -> usize
+    ensures { λ r. ⌜ r ≡ Decisions.past width station ⌝ }
+{
+    if station < last_station(width) {
+        return station + 1;
+    }
+    0
+}
+
 // The station that comes first in the order: the head, or 0 where there is none.
 pub fn first_station(head: Head) -> usize
     ensures { λ r. ⌜ r ≡ start head ⌝ }

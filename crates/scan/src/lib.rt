@@ -3,10 +3,12 @@ use arbiter::Answer;
 use arbiter::Decision;
 use arbiter::State;
 use arbiter::clear;
+use arbiter::decide;
 use arbiter::first_station;
 use arbiter::idle;
 use arbiter::question;
 use arbiter::refusal;
+use arbiter::search::first_one;
 use rules::Head;
 ghost use mathlib.Core.Path.{_≡_};
 ghost use Prim.Native.Nat.{_≤_, _<_};
@@ -16,6 +18,7 @@ ghost use Rattle.rules.specs.RoundRobin.{start};
 ghost use Rattle.rules.specs.Walk.{Ran};
 ghost use Rattle.arbiter.specs.Cycle as Cycle;
 ghost use Rattle.arbiter.specs.Decisions.{requested, decision};
+ghost use Rattle.arbiter.specs.Places.{highest};
 
 // A state that the plain scan serves.
 pub struct Scan(pub State);
@@ -49,48 +52,47 @@ impl Scan {
     {
         let s = self.0;
         let head = s.head;
-        let verdict = question::cycle(s.width, s.picks, head, requests, grants.len());
+        let reading = question::cycle(s.width, s.picks, head, requests, grants.len());
+        let verdict = reading.verdict;
         if verdict.number != refusal::SERVED {
             return s.refused(verdict);
         }
         clear(grants);
-        let decision = walk_round(s.width, s.picks, head, requests, grants);
+        let decision = walk_round(s.width, s.picks, head, requests, reading.highest, grants);
         let next = decision.next;
         s.served(decision.count, next)
     }
 }
 
-// A cycle that no question refuses, with a grant buffer that is all 0. It walks the stations once round: from the head to the
-// last, and then from 0 up to the head. The next head is one past the station granted last.
+// A cycle that no question refuses, with a grant buffer that is all 0. `high` is the highest byte of the requests: where it is 0
+// nobody asks. Else it walks the stations once round: from the head to the last, and then from 0 up to the head.
 fn walk_round(
     width: usize,
     picks: usize,
     head: Head,
     requests: &[u8],
+    high: u8,
     grants: &mut [u8],
 ) -> Decision
     requires { ⌜ start head < width ⌝ }
     requires { ⌜ length (now requests) ≡ width ⌝ }
+    requires { ⌜ high ≡ highest (now requests) ⌝ }
     requires { ⌜ now grants ≡ replicate width 0 ⌝ }
     ensures { λ r. ⌜ r ≡ decision width picks head (requested (now (requests .entry))) ⌝ }
     ensures { λ _. ⌜ now (grants .exit) ≡ RoundRobin.grants width picks head (requested (now (requests .entry))) ⌝ }
 {
+    if high == 0 {
+        return idle(width, head);
+    }
     let first = first_station(head);
     let begun = Walk { count: 0, last: 0 };
     let half = walk_run(picks, requests, grants, first, width, begun);
     let walk = walk_run(picks, requests, grants, 0, first, half);
-    if walk.count != 0 {
-        let next = (walk.last + 1) % width;
-        return Decision {
-            count: walk.count,
-            next: Head::At(next),
-        };
-    }
-    idle(width, head)
+    decide(width, head, walk.count, walk.last)
 }
 
-// Grants those that ask of the stations from `from` up to `to`, in that order, until the picks are used up. `walk` is how far
-// the walk has come before, and the result how far it has come then.
+// Grants those that ask of the stations from `from` up to `to`, in that order, until the picks are used up: it searches for one
+// after the other. `walk` is how far the walk has come before, and the result how far it has come then.
 fn walk_run(
     picks: usize,
     requests: &[u8],
@@ -105,19 +107,19 @@ fn walk_run(
     requires { ⌜ walk .count ≤ picks ⌝ }
     ensures { λ r. ⌜ Ran picks (requested (now (requests .entry))) from to (walk .count) (walk .last) (now (grants .entry)) (r .count) (r .last) (now (grants .exit)) ⌝ }
 {
+    let run = &requests[..to];
     let mut count = walk.count;
     let mut last = walk.last;
     let mut i = from;
-    while i < to {
-        if count == picks {
+    while count < picks {
+        let found = first_one(i, run);
+        let Head::At(station) = found else {
             return Walk { count, last };
-        }
-        if requests[i] == 1 {
-            grants[i] = 1;
-            count += 1;
-            last = i;
-        }
-        i += 1;
+        };
+        grants[station] = 1;
+        count += 1;
+        last = station;
+        i = station + 1;
     }
     Walk { count, last }
 }

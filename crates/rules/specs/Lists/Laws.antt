@@ -52,6 +52,11 @@ count-all [] = refl
 count-all (x ∷ xs) = omega (arith, count-all xs)
 
 -- filtering two lists, one after the other
+-- a test that nothing passes counts none
+pub count-never : {A : Type 0} (p : A → Bool) → ((x : A) → p x ≡ false) → (xs : List A) → count p xs ≡ 0
+count-never p none [] = refl
+count-never p none (x ∷ xs) = rw (none x) (omega (arith, count-never p none xs))
+
 pub filter-append : {A : Type 0} (p : A → Bool) (xs ys : List A) → filter p (xs ++ ys) ≡ filter p xs ++ filter p ys
 filter-append p [] ys = refl
 filter-append p (x ∷ xs) ys = split (p x) (λ e. rw (e, filter-append p xs ys)) (λ e. rw (e, filter-append p xs ys))

@@ -1,12 +1,12 @@
--- `cycle` meets its contract: it asks its questions, and then a walk round gives the rule's answer and grants.
--- Assumes nothing.
-use mathlib.Core.Path.{ap, _∙_}
+use mathlib.Core.Path.{_≡_, ap, _∙_}
 use lib.ListN.{length}
-use borrow.Author.Needs.{needs}
 use Rattle.arbiter.specs.declared.Decision.{Decision}
-use Rattle.arbiter.specs.Answers.Laws.{written, unwritten}
+use Rattle.arbiter.specs.declared.question.Reading.{Reading}
 use Rattle.arbiter.specs.Answers.{decided}
+use Rattle.arbiter.specs.Answers.Laws.{written, unwritten}
+use Rattle.arbiter.specs.Cycle.{questions}
 use Rattle.arbiter.specs.Questions.Laws.{Ready, ready}
+use borrow.Author.Needs.{needs}
 use Rattle.scan.proofs.Scan.cycle.Statement.{statement}
 use Rattle.scan.proofs.Scan.cycle.Tie as tie
 
@@ -16,15 +16,23 @@ cycle-requires c κs = search needs
 refused-requires : tie.Need-refused-requires
 refused-requires c κs = search needs
 
+-- the verdict
+verdict : (c : tie.After-cycle)
+    → let a = c .before .before .before .before .args in
+    let s = a .self .0 in
+    c .cycle .result .verdict ≡ questions s (a .requests .now) (length (a .grants .now))
+verdict c = ap (λ (r : Reading). r .verdict) (c .cycle .ensures)
+
 returns : tie.Need-returns
-returns c = let v = c .before .before .before .cycle .ensures in unwritten _ _ _ v (c .before .if1 .taken) (c .refused .ensures)
+returns c = unwritten _ _ _ (verdict (c .before .before .before .before)) (c .before .if1 .taken) (c .refused .ensures)
 
 -- what is known once the questions have passed
 asked : (c : tie.Else1)
-    → let a = c .before .before .before .before .before .before .args in
+    → let q = c .before .before .before in
+    let a = q .before .before .before .before .args in
     let s = a .self .0 in
-    Ready (s .width) (s .picks) (s .head) (a .requests .now) (length (a .grants .now))
-asked c = ready _ _ _ _ _ (c .before .before .cycle .ensures) (c .if1 .left)
+    Ready (s .width) (s .picks) (s .head) (a .requests .now) (length (a .grants .now)) (q .cycle .result .highest)
+asked c = ready _ _ _ _ _ (c .before .before .before .cycle .ensures) (c .if1 .left)
 
 clear-requires : tie.Need-clear-requires
 clear-requires c κs = search needs
@@ -33,7 +41,7 @@ walk-round-requires : tie.Need-walk-round-requires
 walk-round-requires c κs =
     let k = c .before .before .before in
     let e = asked (k .before .before) in
-    (e .allows .station, (e .asked, k .clear .ensures ∙ rw (e .room)))
+    (e .allows .station, (e .asked, (e .heard, k .clear .ensures ∙ rw (e .room))))
 
 served-requires : tie.Need-served-requires
 served-requires c κs = search needs
@@ -45,8 +53,9 @@ returns-2 : tie.Need-returns-2
 returns-2 c =
     let w = c .before .before .before in
     let e = w .before .before .before .before .before .before in
-    let s = e .before .before .before .before .before .before .args .self .0 in
-    written _ _ (e .before .before .cycle .ensures) (e .if1 .left)
+    let q = e .before .before .before in
+    let s = q .before .before .before .before .args .self .0 in
+    written _ _ (verdict q) (e .if1 .left)
     (c .served .ensures ∙ ap (λ (d : Decision). decided s d) (w .walk-round .ensures .0))
     (w .walk-round .ensures .1)
 
