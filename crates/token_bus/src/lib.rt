@@ -6,18 +6,19 @@ use arbiter::Answer;
 use arbiter::Decision;
 use arbiter::State;
 use arbiter::clear;
-use arbiter::first_one;
 use arbiter::first_station;
+use arbiter::past;
 use arbiter::refusal;
+use arbiter::search::first_one;
 use rules::Head;
 ghost use mathlib.Core.Bool.{cond};
 ghost use mathlib.Core.Path.{_≡_};
-ghost use Prim.Native.Nat.{_+_, _%_, _≤_, _<_};
+ghost use Prim.Native.Nat.{_+_, _%_, _<_};
 ghost use lib.ListN.{length, replicate};
 ghost use Rattle.rules.specs.Bus as Bus;
 ghost use Rattle.arbiter.specs.Decisions.{requested};
 ghost use Rattle.arbiter.specs.Places as Places;
-ghost use Rattle.arbiter.specs.Questions.{maxWidth};
+ghost use Rattle.arbiter.specs.Places.{highest};
 ghost use Rattle.token_bus.specs.Calls as Calls;
 
 // A state that the token bus serves. Its head is the token.
@@ -49,34 +50,37 @@ impl TokenBus {
     {
         let s = self.0;
         let head = s.head;
-        let verdict = question::cycle(s.width, s.picks, head, requests, grants.len(), acknowledge);
+        let reading = question::cycle(s.width, s.picks, head, requests, grants.len());
+        let read = reading.verdict;
+        let verdict = read.then(question::acknowledge(acknowledge));
         if verdict.number != refusal::SERVED {
             return s.refused(verdict);
         }
         clear(grants);
         let token = first_station(head);
-        let decision = grant(s.width, token, requests, grants, acknowledge == 1);
+        let decision = grant(s.width, token, requests, reading.highest, grants, acknowledge == 1);
         let next = decision.next;
         s.served(decision.count, next)
     }
 }
 
-// A cycle that no question refuses, with a grant buffer that is all 0.
+// A cycle that no question refuses, with a grant buffer that is all 0. `high` is the highest byte of the requests.
 fn grant(
     width: usize,
     token: usize,
     requests: &[u8],
+    high: u8,
     grants: &mut [u8],
     acknowledged: bool,
 ) -> Decision
     requires { ⌜ token < width ⌝ }
-    requires { ⌜ width ≤ maxWidth ⌝ }
     requires { ⌜ length (now requests) ≡ width ⌝ }
+    requires { ⌜ high ≡ highest (now requests) ⌝ }
     requires { ⌜ now grants ≡ replicate width 0 ⌝ }
     ensures { λ r. ⌜ r ≡ Calls.decision width token acknowledged (requested (now (requests .entry))) ⌝ }
     ensures { λ _. ⌜ now (grants .exit) ≡ Bus.grants width token (requested (now (requests .entry))) ⌝ }
 {
-    let first = first_request(width, token, requests);
+    let first = first_request(width, token, requests, high);
     let Head::At(station) = first else {
         let kept = pass(width, token, false);
         return Decision {
@@ -92,28 +96,31 @@ fn grant(
     }
 }
 
-// The first station that asks in the order from the token, or none. Where none from the token to the last asks, it is the first
-// that asks at all.
-fn first_request(width: usize, token: usize, requests: &[u8]) -> Head
+// The first station that asks in the order from the token, or none. Where the highest byte is 0 there is none; where none from the
+// token to the last asks, it is the first that asks at all.
+fn first_request(width: usize, token: usize, requests: &[u8], high: u8) -> Head
     requires { ⌜ token < width ⌝ }
     requires { ⌜ length (now requests) ≡ width ⌝ }
+    requires { ⌜ high ≡ highest (now requests) ⌝ }
     ensures { λ r. ⌜ r ≡ Places.first (Bus.granted width token (requested (now (requests .entry)))) ⌝ }
 {
-    let high = first_one(token, requests);
-    match high {
+    if high == 0 {
+        return Head::None;
+    }
+    let above = first_one(token, requests);
+    match above {
         Head::None => first_one(0, requests),
-        Head::At(_) => high,
+        Head::At(_) => above,
     }
 }
 
 // The next token: one past `token`, modulo the width, if it moves, and else `token`.
 fn pass(width: usize, token: usize, moves: bool) -> usize
     requires { ⌜ token < width ⌝ }
-    requires { ⌜ width ≤ maxWidth ⌝ }
     ensures { λ r. ⌜ r ≡ cond moves ((token + 1) % width) token ⌝ }
 {
     if moves {
-        return (token + 1) % width;
+        return past(width, token);
     }
     token
 }

@@ -1,5 +1,6 @@
 // The questions that the token bus asks. Those that are the bus's alone stand here, the others in `arbiter`.
 use arbiter::question;
+use arbiter::question::Reading;
 use arbiter::question::Verdict;
 use arbiter::refusal;
 use rules::Head;
@@ -18,7 +19,7 @@ fn token(width: usize, head: Head) -> Verdict
 }
 
 // Question 9: is acknowledge 0 or 1?
-fn acknowledge(byte: u8) -> Verdict
+pub(crate) fn acknowledge(byte: u8) -> Verdict
     ensures { λ r. ⌜ r ≡ Questions.acknowledge byte ⌝ }
 {
     question::refuse_unless(byte <= 1, refusal::ACKNOWLEDGE, 0)
@@ -34,25 +35,18 @@ pub(crate) fn state(width: usize, picks: usize, head: Head) -> Verdict
     by_width.then(by_picks).then(by_token)
 }
 
-// Questions 1, 3, 4, 5, 6, 8 and 9 of a cycle whose grant buffer has this length. The requests are read last.
+// Questions 1, 3, 4, 5, 6 and 8 of a cycle whose grant buffer has this length.
 pub(crate) fn cycle(
     width: usize,
     picks: usize,
     head: Head,
     requests: &[u8],
     length: usize,
-    byte: u8,
-) -> Verdict
-    ensures { λ r. ⌜ r ≡ Calls.questions width picks head (now (requests .entry)) length byte ⌝ }
+) -> Reading
+    ensures { λ r. ⌜ r ≡ Calls.reading width picks head (now (requests .entry)) length ⌝ }
 {
     let by_state = state(width, picks, head);
     let by_requests = question::read_length(width, requests.len());
     let by_grants = question::write_length(width, length);
-    let unread = by_state.then(by_requests).then(by_grants);
-    if unread.number != refusal::SERVED {
-        return unread;
-    }
-    let by_bits = question::bits(0, requests);
-    let by_acknowledge = acknowledge(byte);
-    by_bits.then(by_acknowledge)
+    question::read(by_state.then(by_requests).then(by_grants), requests)
 }

@@ -56,7 +56,7 @@ all-zero bytes b none =
 
 -- a cycle in which nobody asks grants no one
 module _ (n m : ℕ) (h : Head) (bytes : List ℕ) (e : highest bytes ≡ 0) where
-  none-granted : granted n m h (requested bytes) ≡ []
+  pub none-granted : granted n m h (requested bytes) ≡ []
   none-granted = RoundRobin.granted-none n m h (requested bytes) (Lists.count-never (requested bytes) (none-asks bytes e) (order n h))
 
   pub quiet-decides : deciding n h [] ≡ decision n m h (requested bytes)

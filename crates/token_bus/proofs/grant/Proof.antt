@@ -61,10 +61,7 @@ slice-write-grants c =
     omega (arith, below k, ap length (b .pre .1 .1 .1), length-replicate {A = ℕ} (b .args .width) 0)
 
 pass-requires-2 : tie.Need-pass-requires-2
-pass-requires-2 c κs =
-    let k = c .before in
-    let b = k .before .before .before .before .before in
-    (omega (arith, b .pre .0, below k), b .pre .1 .0)
+pass-requires-2 c κs = search needs
 
 same-length : tie.Need-same-length
 same-length c = search needs

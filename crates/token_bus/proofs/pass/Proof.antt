@@ -1,20 +1,19 @@
--- `pass` meets its contract.
--- Assumes nothing.
+use mathlib.Core.Path.{_∙_}
+use Rattle.arbiter.specs.Decisions.Laws.{past-station}
 use borrow.Author.Needs.{needs}
 use Rattle.token_bus.proofs.pass.Statement.{statement}
 use Rattle.token_bus.proofs.pass.Tie as tie
 
-add-result : tie.Need-add-result
-add-result c = search needs
-
-rem-result : tie.Need-rem-result
-rem-result c = search needs
+past-requires : tie.Need-past-requires
+past-requires c κs = search needs
 
 returns : tie.Need-returns
-returns c = rw (c .if1 .taken)
+returns c =
+    let b = c .before .before in
+    rw (c .before .if1 .taken) (c .past .ensures ∙ past-station (b .args .width) (b .args .token) (b .pre))
 
 returns-2 : tie.Need-returns-2
-returns-2 c = rw (c .if1 .left)
+returns-2 c = search needs
 
 pub pass-spec : {M : Type 1} → statement M
-pass-spec = tie.close (tie.spec add-result rem-result returns returns-2)
+pass-spec = tie.close (tie.spec past-requires returns returns-2)

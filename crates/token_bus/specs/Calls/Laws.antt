@@ -1,4 +1,4 @@
--- Laws of the bus's calls: what is known once the questions have passed, and what a cycle decides and grants once the first
+-- Laws of the bus's calls: what is known once the questions have passed; what a cycle decides and grants once the first
 -- station that asks is found.
 -- Assumes nothing.
 use Prim.Native.Nat.{ℕ, _+_, _-_, _%_, _≤_, _<_}
@@ -17,51 +17,38 @@ use Rattle.rules.specs.RoundRobin.{start, order}
 use Rattle.rules.specs.RoundRobin.Laws as RoundRobin
 use Rattle.rules.specs.Bus as Bus
 use Rattle.rules.specs.Bus.Laws as BusLaws
-use Rattle.arbiter.specs.declared.question.Verdict.{Verdict}
-use Rattle.arbiter.specs.Places.{ones, first}
+use Rattle.arbiter.specs.declared.question.Reading.{Reading}
+use Rattle.arbiter.specs.Places.{ones, first, highest}
 use Rattle.arbiter.specs.Places.Laws.{first-none, first-some}
 use Rattle.arbiter.specs.Questions as Questions
 use Rattle.arbiter.specs.Questions.{_then_}
-use Rattle.arbiter.specs.Questions.Laws.{then-served, width-served, token-served, length-served}
+use Rattle.arbiter.specs.Questions.Laws.{then-served, token-served, length-served, read-served}
 use Rattle.arbiter.specs.Decisions.{requested}
-use Rattle.token_bus.specs.Calls.{state, decision, questions}
+use Rattle.arbiter.specs.Decisions.Laws.{none-granted}
+use Rattle.token_bus.specs.Calls.{state, decision, reading}
 
--- what is known once 1, 3 and 4 have passed
-pub record Allowed (n : ℕ) (h : Head) : Type 0 where
-  pub most : n ≤ Questions.maxWidth
+-- what is known of a cycle once all its questions have passed: r is what they say up to 8, and v the verdict with 9
+pub record Ready (n : ℕ) (h : Head) (requests : List ℕ) (size high : ℕ) : Type 0 where
   pub station : start h < n
-
-pub allowed : (n m : ℕ) (h : Head) → (state n m h) .number ≡ 0 → Allowed n h
-allowed n m h z =
-    let b = then-served (Questions.width n then Questions.onePick m) (Questions.token n h) z in
-    let a = then-served (Questions.width n) (Questions.onePick m) (b .0) in
-    let t = token-served n h (b .1) in
-    let is : start h ≡ t .0 = ap start (t .2) ∙ RoundRobin.start-at (t .0) in
-    record {
-      most = width-served n (a .0) .1;
-      station = omega (arith, is, t .1);
-    }
-
--- what is known of a cycle once all its questions have passed: r is the verdict that the call has in hand
-pub record Ready (n : ℕ) (h : Head) (requests : List ℕ) (size : ℕ) : Type 0 where
-  pub allows : Allowed n h
   pub asked : length requests ≡ n
   pub room : size ≡ n
+  pub heard : high ≡ highest requests
 
-pub ready : {r : Verdict} (n m : ℕ) (h : Head) (requests : List ℕ) (size byte : ℕ) → r ≡ questions n m h requests size byte
-    → r .number ≡ 0 → Ready n h requests size
-ready n m h requests size byte e z =
+pub ready : {r : Reading} (n m : ℕ) (h : Head) (requests : List ℕ) (size byte : ℕ) → r ≡ reading n m h requests size
+    → (r .verdict then Questions.acknowledge byte) .number ≡ 0 → Ready n h requests size (r .highest)
+ready {r} n m h requests size byte e z =
     let five = state n m h then Questions.readLength n (length requests) in
-    let six = five then Questions.writeLength n size in
-    let eight = six then Questions.bits 0 requests in
-    let d = then-served eight (Questions.acknowledge byte) (ap (λ (v : Verdict). v .number) (sym e) ∙ z) in
-    let c = then-served six (Questions.bits 0 requests) (d .0) in
-    let b = then-served five (Questions.writeLength n size) (c .0) in
+    let d = then-served (r .verdict) (Questions.acknowledge byte) z in
+    let c = read-served (five then Questions.writeLength n size) requests e (d .0) in
+    let b = then-served five (Questions.writeLength n size) (c .before) in
     let a = then-served (state n m h) (Questions.readLength n (length requests)) (b .0) in
+    let t = token-served n h (then-served (Questions.width n then Questions.onePick m) (Questions.token n h) (a .0) .1) in
+    let is : start h ≡ t .0 = ap start (t .2) ∙ RoundRobin.start-at (t .0) in
     record {
-      allows = allowed n m h (a .0);
+      station = omega (arith, is, t .1);
       asked = length-served 4 n (length requests) (a .1);
       room = length-served 5 n size (b .1);
+      heard = c .heard;
     }
 
 -- a list of one at most is its first
@@ -127,6 +114,11 @@ module _ (n t : ℕ) (requests : List ℕ) (station : t < n) where
 
   abbrev granted : List ℕ
   granted = Bus.granted n t asks
+
+  -- where every byte is 0 the bus grants no one
+  pub found-none : highest requests ≡ 0 → None ≡ first granted
+  unfolding Bus.granted
+  found-none e = sym (ap first (none-granted n 1 (At t) requests e))
 
   -- a search from the token on finds whom the bus grants, or no one
   pub found-high : (w : ℕ) → length requests ≡ n → first (ones t requests) ≡ At w → At w ≡ first granted

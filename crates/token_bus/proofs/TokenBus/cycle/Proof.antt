@@ -1,35 +1,56 @@
--- `cycle` meets its contract: it asks its questions, and then grants.
--- Assumes nothing.
 use Prim.Native.Nat.{ℕ}
-use mathlib.Core.Path.{ap, _∙_}
+use mathlib.Core.Path.{_≡_, sym, ap, _∙_}
 use lib.ListN.{length}
-use borrow.Author.Needs.{needs}
 use Rattle.rules.specs.Bus as Bus
 use Rattle.arbiter.specs.declared.Decision.{Decision}
+use Rattle.arbiter.specs.declared.question.Reading.{Reading}
+use Rattle.arbiter.specs.declared.question.Verdict.{Verdict}
 use Rattle.arbiter.specs.Answers.{decided}
 use Rattle.arbiter.specs.Answers.Laws.{written, unwritten}
 use Rattle.arbiter.specs.Cycle.{asking}
-use Rattle.token_bus.specs.Calls.{acknowledged, decision}
+use Rattle.arbiter.specs.Questions.{_then_}
+use Rattle.arbiter.specs.Questions.Laws.{chained}
+use Rattle.token_bus.specs.Calls.{acknowledged, decision, questions}
 use Rattle.token_bus.specs.Calls.Laws.{Ready, ready}
+use borrow.Author.Needs.{needs}
 use Rattle.token_bus.proofs.TokenBus.cycle.Statement.{statement}
 use Rattle.token_bus.proofs.TokenBus.cycle.Tie as tie
 
 cycle-requires : tie.Need-cycle-requires
 cycle-requires c κs = search needs
 
+acknowledge-requires : tie.Need-acknowledge-requires
+acknowledge-requires c κs = search needs
+
+then-requires : tie.Need-then-requires
+then-requires c κs = search needs
+
 refused-requires : tie.Need-refused-requires
 refused-requires c κs = search needs
 
+-- the verdict, 9 included
+verdict : (c : tie.After-then)
+    → let a = c .before .before .before .before .before .before .before .args in
+    let s = a .self .0 in
+    c .then .result ≡ questions (s .width) (s .picks) (s .head) (a .requests .now) (length (a .grants .now)) (a .acknowledge)
+verdict c =
+    let q = c .before .before .before in
+    chained (c .then .ensures) (ap (λ (r : Reading). r .verdict) (q .cycle .ensures)) (c .before .acknowledge .ensures)
+
 returns : tie.Need-returns
-returns c = let v = c .before .before .before .cycle .ensures in unwritten _ _ _ v (c .before .if1 .taken) (c .refused .ensures)
+returns c = unwritten _ _ _ (verdict (c .before .before .before)) (c .before .if1 .taken) (c .refused .ensures)
 
 -- what is known once the questions have passed
 asked : (c : tie.Else1)
-    → let a = c .before .before .before .before .before .before .args in
-    Ready (a .self .0 .width) (a .self .0 .head) (a .requests .now) (length (a .grants .now))
+    → let q = c .before .before .before .before .before in
+    let a = q .before .before .before .before .args in
+    Ready (a .self .0 .width) (a .self .0 .head) (a .requests .now) (length (a .grants .now)) (q .cycle .result .highest)
 asked c =
-    let a = c .before .before .before .before .before .before .args in
-    ready _ (a .self .0 .picks) _ _ _ (a .acknowledge) (c .before .before .cycle .ensures) (c .if1 .left)
+    let t = c .before .before in
+    let q = t .before .before .before in
+    let a = q .before .before .before .before .args in
+    let same = t .then .ensures ∙ ap (λ (v : Verdict). q .cycle .result .verdict then v) (t .before .acknowledge .ensures) in
+    ready _ (a .self .0 .picks) _ _ _ (a .acknowledge) (q .cycle .ensures) (ap (λ (v : Verdict). v .number) (sym same) ∙ c .if1 .left)
 
 clear-requires : tie.Need-clear-requires
 clear-requires c κs = search needs
@@ -41,7 +62,7 @@ grant-requires : tie.Need-grant-requires
 grant-requires c κs =
     let k = c .before .before .before .before in
     let e = asked (k .before .before) in
-    (rw (c .before .first-station .ensures) (e .allows .station), (e .allows .most, (e .asked, k .clear .ensures ∙ rw (e .room))))
+    (rw (c .before .first-station .ensures) (e .station), (e .asked, (e .heard, k .clear .ensures ∙ rw (e .room))))
 
 served-requires : tie.Need-served-requires
 served-requires c κs = search needs
@@ -54,10 +75,11 @@ returns-2 c =
     let w = c .before .before .before in
     let f = w .before .before in
     let e = f .before .before .before .before .before in
-    let a = e .before .before .before .before .before .before .args in
+    let t = e .before .before in
+    let a = t .before .before .before .before .before .before .before .args in
     let s = a .self .0 in
     let asks = asking s (a .requests .now) in
-    written _ _ (e .before .before .cycle .ensures) (e .if1 .left)
+    written _ _ (verdict t) (e .if1 .left)
     (c .served .ensures
     ∙ ap (λ (d : Decision). decided s d)
     (w .grant .ensures .0 ∙ ap (λ (t : ℕ). decision (s .width) t (acknowledged (a .acknowledge)) asks) (f .first-station .ensures)))
@@ -68,6 +90,8 @@ cycle-spec =
     tie.close
     (tie.spec
     cycle-requires
+    acknowledge-requires
+    then-requires
     refused-requires
     returns
     clear-requires
