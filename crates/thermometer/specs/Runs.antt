@@ -1,11 +1,10 @@
 -- What a run of the walk promises. The promise of the arbiter's calls is arbiter's Cycle.
 -- Assumes nothing.
-use Prim.Native.Nat.{ℕ, _≤_, _<_}
+use Prim.Native.Nat.{ℕ}
 use mathlib.Core.Path.{_≡_}
 use mathlib.Core.Bool.{true}
 use mathlib.Core.List.{List}
 use lib.Count.{ones}
-use lib.ListN.{length, getD}
 use Rattle.rules.specs.Thermometer.{isCode}
 use Rattle.rules.specs.Walk as Walks
 use Rattle.arbiter.specs.Decisions.{requested}
@@ -15,10 +14,6 @@ pub mod Laws
 -- no walk yet
 abbrev pub begun : Walk
 begun = record { code = 0; last = 0 }
-
--- every byte is 0 or 1, and so is itself the code of a count of 0 or 1
-abbrev pub Bits : List ℕ → Type 0
-Bits bytes = (i : ℕ) → i < length bytes → getD bytes i 0 ≤ 1
 
 -- a run with m picks from one station up to another: the walk and the grant buffer before it, and those after it. The count that it carries
 -- is a code for the picks

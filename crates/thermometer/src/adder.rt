@@ -3,6 +3,7 @@ use arbiter::MAX_PICKS;
 use arbiter::question;
 use arbiter::question::Verdict;
 use arbiter::refusal;
+ghost use mathlib.Core.Bool.{true};
 ghost use mathlib.Core.Path.{_≡_};
 ghost use Prim.Native.Nat.{_≤_};
 ghost use lib.Count.{ones};
@@ -51,7 +52,7 @@ fn addable(picks: usize, left: u8, right: u8) -> Verdict
 }
 
 // The code of the counts' sum, or of the picks if that is smaller.
-pub(crate) fn join(picks: usize, left: u8, right: u8) -> u8
+fn join(picks: usize, left: u8, right: u8) -> u8
     requires { ⌜ picks ≤ 8 ⌝ }
     ensures { λ r. ⌜ r ≡ Rule.add picks left right ⌝ }
 {
@@ -62,8 +63,20 @@ pub(crate) fn join(picks: usize, left: u8, right: u8) -> u8
     code(picks)
 }
 
+// One step of a running count: the sum of a code and a request's code, which is 0 or 1. `full` is the code of the picks. The code
+// of one more is 2 * code + 1, of which `full` keeps what the picks allow, and a request of 0 nothing.
+pub(crate) fn step(full: u8, code: u8, request: u8) -> u8
+    requires { ⌜ Rule.isCode 8 full ≡ true ⌝ }
+    requires { ⌜ Rule.isCode (ones full) code ≡ true ⌝ }
+    requires { ⌜ request ≤ 1 ⌝ }
+    ensures { λ r. ⌜ r ≡ Rule.add (ones full) code request ⌝ }
+{
+    let more = (2 * (code as u32) + 1) & ((full as u32) * (request as u32));
+    code | (more as u8)
+}
+
 // The code of a count.
-fn code(count: usize) -> u8
+pub(crate) fn code(count: usize) -> u8
     requires { ⌜ count ≤ 8 ⌝ }
     ensures { λ r. ⌜ r ≡ Rule.code count ⌝ }
 {

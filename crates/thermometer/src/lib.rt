@@ -20,7 +20,8 @@ ghost use Rattle.rules.specs.RoundRobin.{start};
 ghost use Rattle.rules.specs.Thermometer.{isCode};
 ghost use Rattle.arbiter.specs.Cycle as Cycle;
 ghost use Rattle.arbiter.specs.Decisions.{requested, decision};
-ghost use Rattle.thermometer.specs.Runs.{Bits, Ran};
+ghost use Rattle.arbiter.specs.Places.{Bits};
+ghost use Rattle.thermometer.specs.Runs.{Ran};
 
 // A state that the thermometer arbiter serves.
 pub struct Thermometer(pub State);
@@ -97,8 +98,9 @@ fn count_round(
     idle(width, head)
 }
 
-// Goes along the stations from `from` up to `to`, one adder step for each: a station is granted if it asks and the count before it
-// is below the picks. `walk` is how far the walk has come before, and the result how far it has come then.
+// Goes along the stations from `from` up to `to`, one adder step for each: a station is granted if the count rises, which it does
+// if the station asks and the count before it is below the picks. `walk` is how far the walk has come before, and the result how
+// far it has come then.
 fn count_run(
     picks: usize,
     requests: &[u8],
@@ -115,15 +117,17 @@ fn count_run(
     requires { ⌜ Bits (now requests) ⌝ }
     ensures { λ r. ⌜ Ran picks (now (requests .entry)) from to walk (now (grants .entry)) r (now (grants .exit)) ⌝ }
 {
+    let full = adder::code(picks);
     let mut code = walk.code;
     let mut last = walk.last;
     let mut i = from;
     while i < to {
-        if (requests[i] == 1) & (adder::count(code) < picks) {
+        let sum = adder::step(full, code, requests[i]);
+        if sum != code {
             grants[i] = 1;
             last = i;
+            code = sum;
         }
-        code = adder::join(picks, code, requests[i]);
         i += 1;
     }
     Walk { code, last }

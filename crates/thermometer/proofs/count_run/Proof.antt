@@ -9,7 +9,7 @@ use lib.ListN.{length, length-set}
 use lib.Count.{ones}
 use borrow.Author.Needs.{needs}
 use Rattle.rules.specs.Thermometer.{isCode}
-use Rattle.rules.specs.Thermometer.Laws.{code-few}
+use Rattle.rules.specs.Thermometer.Laws.{ones-code, is-code, code-few}
 use Rattle.rules.specs.Walk as Walks
 use Rattle.rules.specs.Walk.Laws as Walk
 use Rattle.arbiter.specs.Decisions.{requested}
@@ -19,34 +19,36 @@ use Rattle.thermometer.proofs.count_run.Statement.{statement}
 use Rattle.thermometer.proofs.count_run.Tie as tie
 
 abbrev Inv-loop : tie.InvT-loop
-Inv-loop picks requests grants₀ from to code₀ last₀ i₀ grants code last i =
+Inv-loop picks requests grants₀ from to full code₀ last₀ i₀ grants code last i =
     (from ≤ i) × (i ≤ to) × (length grants ≡ length grants₀) × (isCode picks code ≡ true)
     × Walks.Ran picks (requested requests) from i (ones code₀) last₀ grants₀ (ones code) last grants
 
 abbrev μ-loop : tie.MeasureT-loop
-μ-loop picks requests grants₀ from to code₀ last₀ i₀ grants code last i = to - i
+μ-loop picks requests grants₀ from to full code₀ last₀ i₀ grants code last i = to - i
+
+code-requires : tie.Need-code-requires Inv-loop μ-loop
+code-requires c κs = search needs
 
 loop-holds : tie.Need-loop-holds Inv-loop μ-loop
 loop-holds c =
-    let b = c .before .before in
+    let b = c .before .before .before in
     let coded = b .pre .1 .1 .1 .1 .0 in
     (omega arith, omega arith, omega arith, coded, Walk.begin _ _ _ _ _ _ (code-few _ _ coded))
 
-shared-slice-read-if1 : tie.Need-shared-slice-read-if1 Inv-loop μ-loop
-shared-slice-read-if1 c = omega arith
+shared-slice-read-step : tie.Need-shared-slice-read-step Inv-loop μ-loop
+shared-slice-read-step c = omega arith
 
-count-requires : tie.Need-count-requires Inv-loop μ-loop
-count-requires c κs = search needs
+step-requires : tie.Need-step-requires Inv-loop μ-loop
+step-requires c κs =
+    let l = c .before .before .loop in
+    let b = c .before .before .before .before .before .before in
+    let full = c .before .before .before .code .ensures in (
+      rw full (is-code 8 _ (b .pre .1 .1 .1 .0)),
+      (rw (full, ones-code) (l .inv .3), b .pre .1 .1 .1 .1 .1 (l .i) (omega arith)),
+    )
 
 slice-write-grants : tie.Need-slice-write-grants Inv-loop μ-loop
 slice-write-grants c = omega arith
-
-shared-slice-read-join : tie.Need-shared-slice-read-join Inv-loop μ-loop
-shared-slice-read-join c = omega arith
-
-join-requires : tie.Need-join-requires Inv-loop μ-loop
-join-requires c κs =
-    let b = c .before .before .before .before .before .before .before .before in b .pre .1 .1 .1 .0
 
 add-i : tie.Need-add-i Inv-loop μ-loop
 add-i c = omega arith
@@ -56,29 +58,29 @@ loop-less c = omega arith
 
 loop-again : tie.Need-loop-again Inv-loop μ-loop
 loop-again c =
-    let l = c .before .before .before .before .before .before .loop in
-    let b = c .before .before .before .before .before .before .before .before .before in
-    let n = c .before .before .before .count .ensures in
-    let sum = c .join .ensures in
+    let s = c .before in
+    let l = s .before .before .before .loop in
+    let b = s .before .before .before .before .before .before .before in
     let wire = b .pre .1 .1 .1 .1 .1 (l .i) (omega arith) in
+    let sum = rw (s .before .before .before .before .code .ensures, ones-code) at (s .step .ensures) in
     ⊎-elim
     (λ w.
-    rw (w .1, w .2, sum) (
+    rw (w .1, w .2, w .3, sum) (
       omega arith,
       omega arith,
       simp length-set (omega arith),
       Steps.add-is-code _ _ _,
-      Steps.granted _ _ _ _ _ _ (l .i) (l .inv .0) (l .code) _ _ (l .inv .4) _ wire refl (rw n at (w .0 .taken)) (omega arith),
+      Steps.granted _ _ _ (l .inv .3) wire _ _ _ _ _ (l .i) (l .inv .0) _ _ (l .inv .4) refl (rw sum at (w .0 .taken)) (omega arith),
     ))
     (λ w.
-    rw (w .1, w .2, sum) (
+    rw (w .1, w .2, w .3) (
       omega arith,
       omega arith,
       omega arith,
-      Steps.add-is-code _ _ _,
-      Steps.passed-over _ _ _ _ _ _ (l .i) (l .inv .0) (l .code) _ _ (l .inv .4) _ wire refl (rw n at (w .0 .left)),
+      l .inv .3,
+      Steps.passed-over _ _ _ (l .inv .3) wire _ _ _ _ _ (l .i) (l .inv .0) _ _ (l .inv .4) refl (rw sum at (w .0 .left)),
     ))
-    (c .before .before .if1 .came)
+    (c .if1 .came)
 
 same-length : tie.Need-same-length Inv-loop μ-loop
 same-length c = omega arith
@@ -86,7 +88,7 @@ same-length c = omega arith
 returns : tie.Need-returns Inv-loop μ-loop
 returns c =
     let l = c .before .loop in
-    let e : l .i ≡ c .before .before .before .before .args .to = omega arith in
+    let e : l .i ≡ c .before .before .before .before .before .args .to = omega arith in
     record { coded = l .inv .3; ran = rw e at (l .inv .4) }
 
 pub count-run-spec : {M : Type 1} → statement M
@@ -95,12 +97,11 @@ count-run-spec =
     (tie.spec
     Inv-loop
     μ-loop
+    code-requires
     loop-holds
-    shared-slice-read-if1
-    count-requires
+    shared-slice-read-step
+    step-requires
     slice-write-grants
-    shared-slice-read-join
-    join-requires
     add-i
     loop-less
     loop-again
