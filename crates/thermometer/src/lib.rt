@@ -6,6 +6,7 @@ use arbiter::Answer;
 use arbiter::Decision;
 use arbiter::State;
 use arbiter::clear;
+use arbiter::decide;
 use arbiter::first_station;
 use arbiter::idle;
 use arbiter::question;
@@ -20,7 +21,7 @@ ghost use Rattle.rules.specs.RoundRobin.{start};
 ghost use Rattle.rules.specs.Thermometer.{isCode};
 ghost use Rattle.arbiter.specs.Cycle as Cycle;
 ghost use Rattle.arbiter.specs.Decisions.{requested, decision};
-ghost use Rattle.arbiter.specs.Places.{Bits};
+ghost use Rattle.arbiter.specs.Places.{Bits, highest};
 ghost use Rattle.thermometer.specs.Runs.{Ran};
 
 // A state that the thermometer arbiter serves.
@@ -55,47 +56,47 @@ impl Thermometer {
     {
         let s = self.0;
         let head = s.head;
-        let verdict = question::cycle(s.width, s.picks, head, requests, grants.len());
+        let reading = question::cycle(s.width, s.picks, head, requests, grants.len());
+        let verdict = reading.verdict;
         if verdict.number != refusal::SERVED {
             return s.refused(verdict);
         }
         clear(grants);
-        let decision = count_round(s.width, s.picks, head, requests, grants);
+        let decision = count_round(s.width, s.picks, head, requests, reading.highest, grants);
         let next = decision.next;
         s.served(decision.count, next)
     }
 }
 
-// A cycle that no question refuses, with a grant buffer that is all 0. It goes once round, from the head to the last station, and
-// then from 0 up to the head. What it has counted then is the number of grants, and the next head is one past the last of them.
+// A cycle that no question refuses, with a grant buffer that is all 0. `high` is the highest byte of the requests: where it is 0
+// nobody asks. Else it goes once round, from the head to the last station, and then from 0 up to the head, and what it has counted
+// then is the number of grants.
 fn count_round(
     width: usize,
     picks: usize,
     head: Head,
     requests: &[u8],
+    high: u8,
     grants: &mut [u8],
 ) -> Decision
     requires { ⌜ start head < width ⌝ }
     requires { ⌜ picks ≤ 8 ⌝ }
     requires { ⌜ length (now requests) ≡ width ⌝ }
     requires { ⌜ Bits (now requests) ⌝ }
+    requires { ⌜ high ≡ highest (now requests) ⌝ }
     requires { ⌜ now grants ≡ replicate width 0 ⌝ }
     ensures { λ r. ⌜ r ≡ decision width picks head (requested (now (requests .entry))) ⌝ }
     ensures { λ _. ⌜ now (grants .exit) ≡ RoundRobin.grants width picks head (requested (now (requests .entry))) ⌝ }
 {
+    if high == 0 {
+        return idle(width, head);
+    }
     let first = first_station(head);
     let begun = Walk { code: 0, last: 0 };
     let half = count_run(picks, requests, grants, first, width, begun);
     let walk = count_run(picks, requests, grants, 0, first, half);
     let count = adder::count(walk.code);
-    if count != 0 {
-        let next = (walk.last + 1) % width;
-        return Decision {
-            count,
-            next: Head::At(next),
-        };
-    }
-    idle(width, head)
+    decide(width, head, count, walk.last)
 }
 
 // Goes along the stations from `from` up to `to`, one adder step for each: a station is granted if the count rises, which it does

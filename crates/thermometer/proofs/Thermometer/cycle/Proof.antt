@@ -1,13 +1,12 @@
--- `cycle` meets its contract: it asks its questions, and then a walk round gives the rule's answer and grants.
--- Assumes nothing.
-use mathlib.Core.Path.{ap, _∙_}
-use native.Mathlib.Omega.{arith}
+use mathlib.Core.Path.{_≡_, ap, _∙_}
 use lib.ListN.{length}
-use borrow.Author.Needs.{needs}
 use Rattle.arbiter.specs.declared.Decision.{Decision}
-use Rattle.arbiter.specs.Answers.Laws.{written, unwritten}
+use Rattle.arbiter.specs.declared.question.Reading.{Reading}
 use Rattle.arbiter.specs.Answers.{decided}
+use Rattle.arbiter.specs.Answers.Laws.{written, unwritten}
+use Rattle.arbiter.specs.Cycle.{questions}
 use Rattle.arbiter.specs.Questions.Laws.{Ready, ready}
+use borrow.Author.Needs.{needs}
 use Rattle.thermometer.proofs.Thermometer.cycle.Statement.{statement}
 use Rattle.thermometer.proofs.Thermometer.cycle.Tie as tie
 
@@ -17,16 +16,23 @@ cycle-requires c κs = search needs
 refused-requires : tie.Need-refused-requires
 refused-requires c κs = search needs
 
+-- the verdict
+verdict : (c : tie.After-cycle)
+    → let a = c .before .before .before .before .args in
+    let s = a .self .0 in
+    c .cycle .result .verdict ≡ questions s (a .requests .now) (length (a .grants .now))
+verdict c = ap (λ (r : Reading). r .verdict) (c .cycle .ensures)
+
 returns : tie.Need-returns
-returns c =
-    let v = c .before .before .before .cycle .ensures in unwritten _ _ _ v (c .before .if1 .taken) (c .refused .ensures)
+returns c = unwritten _ _ _ (verdict (c .before .before .before .before)) (c .before .if1 .taken) (c .refused .ensures)
 
 -- what is known once the questions have passed
 asked : (c : tie.Else1)
-    → let a = c .before .before .before .before .before .before .args in
+    → let q = c .before .before .before in
+    let a = q .before .before .before .before .args in
     let s = a .self .0 in
-    Ready (s .width) (s .picks) (s .head) (a .requests .now) (length (a .grants .now))
-asked c = ready _ _ _ _ _ (c .before .before .cycle .ensures) (c .if1 .left)
+    Ready (s .width) (s .picks) (s .head) (a .requests .now) (length (a .grants .now)) (q .cycle .result .highest)
+asked c = ready _ _ _ _ _ (c .before .before .before .cycle .ensures) (c .if1 .left)
 
 clear-requires : tie.Need-clear-requires
 clear-requires c κs = search needs
@@ -34,10 +40,8 @@ clear-requires c κs = search needs
 count-round-requires : tie.Need-count-round-requires
 count-round-requires c κs =
     let k = c .before .before .before in
-    let e = asked (k .before .before) in (
-      e .allows .station,
-      (e .allows .few, (e .asked, (λ i l. e .wires i (omega (arith, e .asked)), k .clear .ensures ∙ rw (e .room)))),
-    )
+    let e = asked (k .before .before) in
+    (e .allows .station, (e .allows .few, (e .asked, (e .wires, (e .heard, k .clear .ensures ∙ rw (e .room))))))
 
 served-requires : tie.Need-served-requires
 served-requires c κs = search needs
@@ -49,8 +53,9 @@ returns-2 : tie.Need-returns-2
 returns-2 c =
     let w = c .before .before .before in
     let e = w .before .before .before .before .before .before in
-    let s = e .before .before .before .before .before .before .args .self .0 in
-    written _ _ (e .before .before .cycle .ensures) (e .if1 .left)
+    let q = e .before .before .before in
+    let s = q .before .before .before .before .args .self .0 in
+    written _ _ (verdict q) (e .if1 .left)
     (c .served .ensures ∙ ap (λ (d : Decision). decided s d) (w .count-round .ensures .0))
     (w .count-round .ensures .1)
 
