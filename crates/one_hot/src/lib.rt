@@ -2,10 +2,10 @@
 use arbiter::Answer;
 use arbiter::State;
 use arbiter::clear;
-use arbiter::first_one;
 use arbiter::question;
 use arbiter::question::Verdict;
 use arbiter::refusal;
+use arbiter::search::first_one;
 use rules::Head;
 ghost use mathlib.Core.Path.{_≡_};
 ghost use Rattle.arbiter.specs.Questions as Questions;
@@ -50,19 +50,18 @@ impl OneHot {
     }
 }
 
-// The questions of reading an image. The image is read last.
+// The questions of reading an image: 10 looks at it only where the others pass.
 fn readable(width: usize, picks: usize, head: Head, image: &[u8]) -> Verdict
     ensures { λ r. ⌜ r ≡ Calls.questions width picks head (now (image .entry)) ⌝ }
 {
     let by_state = question::state(width, picks, head);
     let by_length = question::read_length(width, image.len());
-    let unread = by_state.then(by_length);
-    if unread.number != refusal::SERVED {
-        return unread;
+    let reading = question::read(by_state.then(by_length), image);
+    let read = reading.verdict;
+    if read.number != refusal::SERVED {
+        return read;
     }
-    let by_bits = question::bits(0, image);
-    let by_ones = single_one(image);
-    by_bits.then(by_ones)
+    single_one(image)
 }
 
 // Question 10: has an image at most one 1? The place of a refusal is that of the second.
