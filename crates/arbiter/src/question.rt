@@ -153,13 +153,7 @@ pub fn write(width: usize, picks: usize, head: Head, stated: usize, length: usiz
 }
 
 // Questions 1, 3, 4, 5, 6 and 8 of a cycle of the plain scan or the thermometer arbiter, whose grant buffer has `length` bytes.
-pub fn cycle(
-    width: usize,
-    picks: usize,
-    head: Head,
-    requests: &[u8],
-    length: usize,
-) -> Reading
+pub fn cycle(width: usize, picks: usize, head: Head, requests: &[u8], length: usize) -> Reading
     ensures { λ r. ⌜ r ≡ Questions.cycle width picks head (now (requests .entry)) length ⌝ }
 {
     let by_state = state(width, picks, head);

@@ -58,7 +58,14 @@ impl TokenBus {
         }
         clear(grants);
         let token = first_station(head);
-        let decision = grant(s.width, token, requests, reading.highest, grants, acknowledge == 1);
+        let decision = grant(
+            s.width,
+            token,
+            requests,
+            reading.highest,
+            grants,
+            acknowledge == 1,
+        );
         let next = decision.next;
         s.served(decision.count, next)
     }

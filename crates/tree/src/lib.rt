@@ -8,6 +8,7 @@ use arbiter::Answer;
 use arbiter::Decision;
 use arbiter::State;
 use arbiter::clear;
+use arbiter::decide;
 use arbiter::idle;
 use arbiter::refusal;
 use rules::Head;
@@ -73,25 +74,9 @@ fn grant(width: usize, head: Head, nodes: &[u8], grants: &mut [u8]) -> Decision
 {
     let station = descent::reached(width, nodes);
     let leaf = width + station;
-    let asks = nodes::s0(nodes[leaf]);
-    if asks {
+    if nodes::s0(nodes[leaf]) {
         grants[station] = 1;
-    }
-    settle(width, head, station, asks)
-}
-
-// What is decided once the descent has reached a station: if it asks it is granted, and the next head is one past it.
-fn settle(width: usize, head: Head, station: usize, asks: bool) -> Decision
-    requires { ⌜ station < width ⌝ }
-    requires { ⌜ width ≤ maxWidth ⌝ }
-    ensures { λ r. ⌜ r ≡ Steps.settled width head station asks ⌝ }
-{
-    if asks {
-        let next = (station + 1) % width;
-        return Decision {
-            count: 1,
-            next: Head::At(next),
-        };
+        return decide(width, head, 1, station);
     }
     idle(width, head)
 }

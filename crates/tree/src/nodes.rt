@@ -1,45 +1,72 @@
 // The node buffer: byte 0 is 0, node 1 is the root, node u has the children 2u and 2u + 1, and station i is node width + i. A
 // node's value is 2 × S1 + S0: S1 says that the head is below it, S0 that a station below it asks.
+use arbiter::MAX_WIDTH;
 use rules::Head;
 ghost use mathlib.Core.Path.{_≡_};
 ghost use mathlib.Core.List.{map};
-ghost use Prim.Native.Nat.{_+_, _-_, _*_, _≤_};
+ghost use Prim.Native.Nat.{_+_, _-_, _*_, _≤_, _<_};
 ghost use lib.ListN.{length, drop};
 ghost use Rattle.rules.specs.Lists.{range};
+ghost use Rattle.rules.specs.RoundRobin.{start};
 ghost use Rattle.rules.specs.Tree as Rule;
 ghost use Rattle.arbiter.specs.Decisions.{requested};
+ghost use Rattle.arbiter.specs.Places.{Bits};
+ghost use Rattle.arbiter.specs.Questions.{maxWidth};
+ghost use Rattle.tree.specs.Steps as Steps;
+
+// The most pairs of a level.
+const MAX_PAIRS: usize = MAX_WIDTH / 2;
 
 // Writes the tree of these requests and the head.
 pub(crate) fn build(width: usize, head: Head, requests: &[u8], nodes: &mut [u8])
     requires { ⌜ 1 ≤ width ⌝ }
+    requires { ⌜ width ≤ maxWidth ⌝ }
+    requires { ⌜ start head < width ⌝ }
     requires { ⌜ length (now requests) ≡ width ⌝ }
+    requires { ⌜ Bits (now requests) ⌝ }
     requires { ⌜ length (now nodes) ≡ 2 * width ⌝ }
     ensures { λ _. ⌜ now (nodes .exit) ≡ Rule.nodes width head (requested (now (requests .entry))) ⌝ }
 {
-    write_leaves(width, head, requests, nodes);
+    write_requests(width, requests, nodes);
+    mark_head(width, head, nodes);
     join_all(width, nodes);
 }
 
-// Writes the stations' nodes.
-fn write_leaves(width: usize, head: Head, requests: &[u8], nodes: &mut [u8])
+// Writes the stations' nodes without the head: each its request.
+fn write_requests(width: usize, requests: &[u8], nodes: &mut [u8])
     requires { ⌜ length (now requests) ≡ width ⌝ }
     requires { ⌜ length (now nodes) ≡ 2 * width ⌝ }
-    ensures { λ _. ⌜ drop width (now (nodes .exit)) ≡ map (Rule.leaf head (requested (now (requests .entry)))) (range 0 width) ⌝ }
+    ensures { λ _. ⌜ drop width (now (nodes .exit)) ≡ now (requests .entry) ⌝ }
 {
     let mut i: usize = 0;
     while i < width {
-        nodes[width + i] = value(at_head(head, i), requests[i] == 1);
+        nodes[width + i] = requests[i];
         i += 1;
     }
+}
+
+// Adds S1 to the head's node. The stations' nodes hold their requests before.
+fn mark_head(width: usize, head: Head, nodes: &mut [u8])
+    requires { ⌜ start head < width ⌝ }
+    requires { ⌜ length (now nodes) ≡ 2 * width ⌝ }
+    requires { ⌜ Bits (drop width (now nodes)) ⌝ }
+    ensures { λ _. ⌜ drop width (now (nodes .exit)) ≡ map (Rule.leaf head (requested (drop width (now (nodes .entry))))) (range 0 width) ⌝ }
+{
+    let Head::At(h) = head else {
+        return;
+    };
+    nodes[width + h] += 2;
 }
 
 // Joins the nodes from the last that is no station's up to the root, and sets byte 0.
 fn join_all(width: usize, nodes: &mut [u8])
     requires { ⌜ 1 ≤ width ⌝ }
+    requires { ⌜ width ≤ maxWidth ⌝ }
     requires { ⌜ length (now nodes) ≡ 2 * width ⌝ }
+    requires { ⌜ Steps.ValuesFrom width width (now nodes) ⌝ }
     ensures { λ _. ⌜ now (nodes .exit) ≡ Rule.joined (width - 1) (drop width (now (nodes .entry))) ⌝ }
 {
-    let mut u = width;
+    let mut u = join_levels(width, nodes);
     while 1 < u {
         u -= 1;
         nodes[u] = join(nodes[2 * u], nodes[2 * u + 1]);
@@ -47,32 +74,69 @@ fn join_all(width: usize, nodes: &mut [u8])
     nodes[0] = 0;
 }
 
-// The value of a node with these children: a request on the left counts only where the head is not on the right.
+// Joins whole levels while more than 16 nodes are left, and says from which node on the buffer is done. A level's children are
+// read before any of its nodes is written, so that the compiler can join many at once. A small tree makes no array.
+fn join_levels(width: usize, nodes: &mut [u8]) -> usize
+    requires { ⌜ 1 ≤ width ⌝ }
+    requires { ⌜ width ≤ maxWidth ⌝ }
+    requires { ⌜ length (now nodes) ≡ 2 * width ⌝ }
+    requires { ⌜ Steps.ValuesFrom width width (now nodes) ⌝ }
+    ensures { λ r. ⌜ Steps.DoneFrom r width (Rule.joined (width - 1) (drop width (now (nodes .entry)))) (now (nodes .exit)) ⌝ }
+{
+    if width <= 16 {
+        return width;
+    }
+    let mut pairs = [0u16; MAX_PAIRS];
+    let mut low = width;
+    while 16 < low {
+        let from = low - low / 2;
+        read_pairs(from, low, nodes, &mut pairs);
+        join_pairs(from, low, &pairs, nodes);
+        low = from;
+    }
+    low
+}
+
+// Reads the children of the nodes from `from` up to `to`, a pair for each: left + 256 × right.
+fn read_pairs(from: usize, to: usize, nodes: &[u8], pairs: &mut [u16; MAX_PAIRS])
+    requires { ⌜ to ≤ from + Steps.maxPairs ⌝ }
+    requires { ⌜ 2 * to ≤ length (now nodes) ⌝ }
+    requires { ⌜ length (now pairs) ≡ Steps.maxPairs ⌝ }
+    ensures { λ _. ⌜ Steps.Pairs from to (now (nodes .entry)) (now (pairs .exit)) ⌝ }
+{
+    let mut u = from;
+    while u < to {
+        pairs[u - from] = (nodes[2 * u] as u16) + (nodes[2 * u + 1] as u16) * 256;
+        u += 1;
+    }
+}
+
+// Joins these pairs into the nodes from `from` up to `to`.
+fn join_pairs(from: usize, to: usize, pairs: &[u16; MAX_PAIRS], nodes: &mut [u8])
+    requires { ⌜ from ≤ to ⌝ }
+    requires { ⌜ to ≤ from + Steps.maxPairs ⌝ }
+    requires { ⌜ to ≤ 2 * from ⌝ }
+    requires { ⌜ 2 * to ≤ length (now nodes) ⌝ }
+    requires { ⌜ Steps.ValuesFrom to to (now nodes) ⌝ }
+    requires { ⌜ Steps.Pairs from to (now nodes) (now pairs) ⌝ }
+    ensures { λ _. ⌜ Steps.Level from to (now (nodes .entry)) (now (nodes .exit)) ⌝ }
+{
+    let mut u = from;
+    while u < to {
+        let pair = pairs[u - from];
+        nodes[u] = join((pair % 256) as u8, (pair / 256) as u8);
+        u += 1;
+    }
+}
+
+// The value of a node with these children, both below 4, bit by bit: S1 of either, and S0 of the right, or of the left where
+// the right has no S1.
 fn join(left: u8, right: u8) -> u8
+    requires { ⌜ left < 4 ⌝ }
+    requires { ⌜ right < 4 ⌝ }
     ensures { λ r. ⌜ r ≡ Rule.join left right ⌝ }
 {
-    let head_left = s1(left);
-    let head_right = s1(right);
-    let asks_left = s0(left);
-    let asks_right = s0(right);
-    value(
-        head_left | head_right,
-        asks_right | (asks_left & !head_right),
-    )
-}
-
-// The value with these bits.
-fn value(s1: bool, s0: bool) -> u8
-    ensures { λ r. ⌜ r ≡ Rule.value s1 s0 ⌝ }
-{
-    2 * (s1 as u8) + (s0 as u8)
-}
-
-// The S1 of a value.
-fn s1(value: u8) -> bool
-    ensures { λ r. ⌜ r ≡ Rule.s1 value ⌝ }
-{
-    value / 2 == 1
+    ((left | right) & 2) | ((right | (left & !(right >> 1))) & 1)
 }
 
 // The S0 of a value.
@@ -80,14 +144,4 @@ pub(crate) fn s0(value: u8) -> bool
     ensures { λ r. ⌜ r ≡ Rule.s0 value ⌝ }
 {
     value % 2 == 1
-}
-
-// Whether the head is at this station.
-fn at_head(head: Head, station: usize) -> bool
-    ensures { λ r. ⌜ r ≡ Rule.headAt head station ⌝ }
-{
-    match head {
-        Head::None => false,
-        Head::At(h) => h == station,
-    }
 }

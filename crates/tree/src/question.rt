@@ -40,7 +40,7 @@ pub(crate) fn state(width: usize, picks: usize, head: Head) -> Verdict
     by_width.then(by_power).then(by_picks).then(by_head)
 }
 
-// Questions 1 to 8 of a cycle whose grant and node buffers have these lengths. The requests are read last.
+// Questions 1 to 8 of a cycle whose grant and node buffers have these lengths.
 pub(crate) fn cycle(
     width: usize,
     picks: usize,
@@ -56,8 +56,6 @@ pub(crate) fn cycle(
     let by_grants = question::write_length(width, grants);
     let by_nodes = nodes_length(width, nodes);
     let unread = by_state.then(by_requests).then(by_grants).then(by_nodes);
-    if unread.number != refusal::SERVED {
-        return unread;
-    }
-    question::bits(0, requests)
+    let reading = question::read(unread, requests);
+    reading.verdict
 }

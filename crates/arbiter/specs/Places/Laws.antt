@@ -81,9 +81,9 @@ module _ {test : ℕ → Bool} {from i : ℕ} {bytes : List ℕ} (free : Free te
       let here : from + n ≡ i = omega arith in
       let p : ℕ → Bool = λ w. test (getD bytes w 0) in
       sym (
-        ap (λ (m : ℕ). filter p (range from m)) all ∙ ap (filter p) (Lists.range-append from n k)
-        ∙ Lists.filter-append p (range from n) (range (from + n) k)
-        ∙ rw (Lists.filter-none p from n (λ w a b. free .at w a (omega arith)), here)
+      ap (λ (m : ℕ). filter p (range from m)) all ∙ ap (filter p) (Lists.range-append from n k)
+      ∙ Lists.filter-append p (range from n) (range (from + n) k)
+      ∙ rw (Lists.filter-none p from n (λ w a b. free .at w a (omega arith)), here)
       ))
       (λ q.
       let past : length bytes ≤ i = ltb-false i (length bytes) q in

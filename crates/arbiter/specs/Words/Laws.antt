@@ -113,8 +113,8 @@ module _ (bytes : List ℕ) (i : ℕ) (room : i + 8 ≤ length bytes) where
       let r = rw all at (lowest eight (λ k l. let l8 : k < 8 = omega (arith, long) in rw (at k l8) (small (i + k))) some) in (
         omega (arith, r .within, long),
         λ w l u.
-        let k : i + (w - i) ≡ w = omega arith in
-        rw k at (sym (at (w - i) (omega (arith, r .within, long))) ∙ r .zeros (w - i) (omega arith)),
+            let k : i + (w - i) ≡ w = omega arith in
+            rw k at (sym (at (w - i) (omega (arith, r .within, long))) ∙ r .zeros (w - i) (omega arith)),
       )
 
 -- one byte of the number, and the number of those after it

@@ -1,14 +1,12 @@
--- `grant` meets its contract.
--- Assumes nothing.
 use Prim.Native.Nat.{ℕ, _+_, _<_}
-use mathlib.Core.Logic.{⊎-elim}
 use mathlib.Core.Path.{_≡_, sym, ap, _∙_}
 use native.Mathlib.Omega.{arith}
-use lib.ListN.{length, getD, length-set, length-replicate}
-use borrow.Author.Needs.{needs}
+use lib.ListN.{length, getD, length-replicate}
 use Rattle.rules.specs.Tree.{s0, reached}
 use Rattle.rules.specs.Tree.Laws.{reached-station}
-use Rattle.tree.specs.Steps.Laws.{settled-same, settled-descended, grants-one, grants-none}
+use Rattle.arbiter.specs.Decisions.Laws.{counted-one}
+use Rattle.tree.specs.Steps.Laws.{descended-one, descended-none, grants-one, grants-none}
+use borrow.Author.Needs.{needs}
 use Rattle.tree.proofs.grant.Statement.{statement}
 use Rattle.tree.proofs.grant.Tie as tie
 
@@ -36,30 +34,45 @@ slice-write-grants c =
     let b = k .before .before .before in
     omega (arith, below k, ap length (b .pre .1 .1 .1 .1), length-replicate {A = ℕ} (b .args .width) 0)
 
-settle-requires : tie.Need-settle-requires
-settle-requires c κs =
-    let k = c .before .before .before in
-    (below k, k .before .before .before .pre .1 .0)
+decide-requires : tie.Need-decide-requires
+decide-requires c κs = search needs
 
 same-length : tie.Need-same-length
-same-length c = ⊎-elim (λ w. rw (w .1) (simp length-set (omega arith))) (λ w. rw (w .1) (omega arith)) (c .before .if1 .came)
+same-length c = search needs
+
+-- whether it asks
+asks : (c : tie.After-s0)
+    → let k = c .before .before in
+    let a = k .before .before .before .args in
+    c .s0 .result ≡ s0 (getD (a .nodes .now) (a .width + reached (a .width) (a .nodes .now)) 0)
+asks c =
+    let k = c .before .before in
+    let a = k .before .before .before .args in
+    c .s0 .ensures ∙ ap (λ (w : ℕ). s0 (getD (a .nodes .now) (a .width + w) 0)) (k .reached .ensures)
 
 returns : tie.Need-returns
 returns c =
-    let a = c .before .before in
-    let k = a .before .before in
+    let i = c .before in
+    let k = i .before .before .before in
     let b = k .before .before .before in
-    let n = b .args .width in
-    let h = b .args .head in
-    let nodes = b .args .nodes .now in
+    let a = b .args in
     let e = k .reached .ensures in
-    let asks : a .s0 .result ≡ s0 (getD nodes (n + reached n nodes) 0) =
-    a .s0 .ensures ∙ ap (λ (w : ℕ). s0 (getD nodes (n + w) 0)) e in (
-      c .settle .ensures ∙ settled-same n h e asks ∙ settled-descended n nodes h,
-      ⊎-elim
-          (λ w. w .1 ∙ rw (b .pre .1 .1 .1 .1, e) (grants-one n nodes (b .pre .0) (sym asks ∙ w .0 .taken)))
-          (λ w. w .1 ∙ b .pre .1 .1 .1 .1 ∙ grants-none n nodes (sym asks ∙ w .0 .left))
-          (c .before .if1 .came),
+    let yes = sym (asks (i .before)) ∙ i .if1 .taken in (
+      c .decide .ensures ∙ counted-one (a .width) _ (a .head) (below k) ∙ rw e (descended-one (a .width) (a .nodes .now) (a .head) yes),
+      rw (b .pre .1 .1 .1 .1, e) (grants-one (a .width) (a .nodes .now) (b .pre .0) yes),
+    )
+
+idle-requires : tie.Need-idle-requires
+idle-requires c κs = search needs
+
+returns-2 : tie.Need-returns-2
+returns-2 c =
+    let i = c .before in
+    let b = i .before .before .before .before .before .before in
+    let a = b .args in
+    let no-one = sym (asks (i .before)) ∙ i .if1 .left in (
+      c .idle .ensures ∙ descended-none (a .width) (a .nodes .now) (a .head) no-one,
+      b .pre .1 .1 .1 .1 ∙ grants-none (a .width) (a .nodes .now) no-one,
     )
 
 pub grant-spec : {M : Type 1} → statement M
@@ -71,6 +84,8 @@ grant-spec =
     shared-slice-read-s0
     s0-requires
     slice-write-grants
-    settle-requires
+    decide-requires
     same-length
-    returns)
+    returns
+    idle-requires
+    returns-2)

@@ -14,9 +14,10 @@ use Rattle.rules.specs.Tree.Laws as Tree
 use Rattle.arbiter.specs.declared.Answer.{Answer}
 use Rattle.arbiter.specs.declared.State.{State}
 use Rattle.arbiter.specs.declared.question.Verdict.{Verdict}
+use Rattle.arbiter.specs.Places.{Bits}
 use Rattle.arbiter.specs.Questions as Questions
 use Rattle.arbiter.specs.Questions.{_then_}
-use Rattle.arbiter.specs.Questions.Laws.{then-served, width-served, tree-width-served, one-pick-served, head-served, length-served}
+use Rattle.arbiter.specs.Questions.Laws.{then-served, width-served, tree-width-served, one-pick-served, head-served, length-served, bits-served}
 use Rattle.arbiter.specs.Answers.{refused}
 use Rattle.arbiter.specs.Answers.Laws.{if-passed, if-refused}
 use Rattle.arbiter.specs.Cycle.{asking, answer, granting}
@@ -58,6 +59,7 @@ pub record Ready (n m : ℕ) (h : Head) (requests : List ℕ) (grantsSize nodesS
   pub asked : length requests ≡ n
   pub room : grantsSize ≡ n
   pub space : nodesSize ≡ 2 * n
+  pub wires : Bits requests
 
 pub ready : {r : Verdict} (n m : ℕ) (h : Head) (requests : List ℕ) (grantsSize nodesSize : ℕ)
     → r ≡ questions n m h requests grantsSize nodesSize → r .number ≡ 0 → Ready n m h requests grantsSize nodesSize
@@ -74,6 +76,7 @@ ready n m h requests grantsSize nodesSize e z =
       asked = length-served 4 n (length requests) (a .1);
       room = length-served 5 n grantsSize (b .1);
       space = length-served 6 (2 * n) nodesSize (c .1);
+      wires = bits-served requests (d .1);
     }
 
 -- an outcome, field by field

@@ -1,24 +1,16 @@
 -- Laws of the steps: what is decided at the station that the descent reached, with its request, is what the node buffer decides.
 -- Assumes nothing.
-use Prim.Native.Nat.{ℕ, _+_, _%_, _≤_}
-use mathlib.Core.Path.{_≡_, refl}
+use Prim.Native.Nat.{ℕ, _+_, _≤_}
+use mathlib.Core.Path.{_≡_}
 use mathlib.Core.Bool.{Bool, true, false}
-use mathlib.Core.List.{List}
+use mathlib.Core.List.{List, [], _∷_}
 use lib.ListN.{getD, set, replicate}
 use Rattle.rules.specs.declared.Head.{Head}
-use Rattle.rules.specs.declared.Head.the-variants.{At}
 use Rattle.rules.specs.Lists.Laws as Lists
-use Rattle.rules.specs.RoundRobin.Laws as RoundRobin
 use Rattle.rules.specs.Tree as Rule
 use Rattle.rules.specs.Tree.Laws as Tree
-use Rattle.tree.specs.Steps.{settled, descended}
-
--- the station reached asks, or it does not
-pub settled-one : (n : ℕ) (h : Head) (w : ℕ) → record { count = 1; next = At ((w + 1) % n) } ≡ settled n h w true
-settled-one n h w = rw (RoundRobin.after-one n h w)
-
-pub settled-same : {w v : ℕ} {a b : Bool} (n : ℕ) (h : Head) → w ≡ v → a ≡ b → settled n h w a ≡ settled n h v b
-settled-same n h e f = rw (e, f)
+use Rattle.arbiter.specs.Decisions.{deciding}
+use Rattle.tree.specs.Steps.{descended}
 
 module _ (n : ℕ) (t : List ℕ) where
   abbrev r : ℕ
@@ -27,9 +19,14 @@ module _ (n : ℕ) (t : List ℕ) where
   abbrev asks : Bool
   asks = Rule.s0 (getD t (n + r) 0)
 
-  pub settled-descended : (h : Head) → settled n h r asks ≡ descended n h t
+  -- the station reached asks, or it does not
+  pub descended-one : (h : Head) → asks ≡ true → deciding n h (r ∷ []) ≡ descended n h t
   unfolding Rule.chosen
-  settled-descended h = refl
+  descended-one h e = rw e
+
+  pub descended-none : (h : Head) → asks ≡ false → deciding n h [] ≡ descended n h t
+  unfolding Rule.chosen
+  descended-none h e = rw e
 
   -- and the grant buffer
   pub grants-one : 1 ≤ n → asks ≡ true → set (replicate n 0) r 1 ≡ Rule.grants n t

@@ -94,7 +94,7 @@ first-of-few-requires-2 : tie.Need-first-of-few-requires-2 Inv-loop μ-loop
 first-of-few-requires-2 c κs = search needs
 
 returns-3 : tie.Need-returns-3 Inv-loop μ-loop
-returns-3 c = 
+returns-3 c =
     let l = c .before .before .loop in
     c .first-of-few2 .ensures ∙ ap first (places-on (l .inv .1) (l .inv .0))
 

@@ -30,14 +30,14 @@ loop-less : tie.Need-loop-less Inv-loop μ-loop
 loop-less c = omega arith
 
 loop-again : tie.Need-loop-again Inv-loop μ-loop
-loop-again c = 
+loop-again c =
     let l = c .before .before .before .loop in
     let b = c .before .before .before .before .args .bytes .now in
     let rest = highest-next b (l .i) (omega arith) in
     ⊎-elim (λ w. omega (arith, rest)) (λ w. omega (arith, rest)) (c .if1 .came)
 
 returns : tie.Need-returns Inv-loop μ-loop
-returns c = 
+returns c =
     let l = c .before .loop in
     let b = c .before .before .args .bytes .now in
     omega (arith, highest-none b (l .i) (c .loop-test .left), l .inv)

@@ -116,7 +116,7 @@ add-result-7 : tie.Need-add-result-7
 add-result-7 c = search needs
 
 returns : tie.Need-returns
-returns c = 
+returns c =
     let b = c .before .before .before .before .before .before .before .before .before .before .before .before .before .before .before .before .before in
     omega (arith, spelled (b .args .bytes .now) (b .args .i) (b .pre))
 

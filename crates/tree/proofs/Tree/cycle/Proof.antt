@@ -35,7 +35,7 @@ clear-requires c κs = search needs
 build-requires : tie.Need-build-requires
 build-requires c κs =
     let e = asked (c .before .before .before .before .before) in
-    (e .allows .some, (e .asked, e .space))
+    (e .allows .some, (e .allows .most, (e .allows .station, (e .asked, (e .wires, e .space)))))
 
 grant-requires : tie.Need-grant-requires
 grant-requires c κs =

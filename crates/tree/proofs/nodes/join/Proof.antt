@@ -1,35 +1,28 @@
--- `join` meets its contract.
+-- `join` meets its contract: computed for each of the 16 pairs.
 -- Assumes nothing.
-use mathlib.Core.Path.{_∙_}
-use borrow.Author.Needs.{needs}
-use Rattle.rules.specs.Tree.{join}
+use Prim.Native.Nat.{ℕ, zero, suc, _<_}
+use mathlib.Core.Path.{_≡_, refl}
+use native.Mathlib.Omega.{arith}
+use Rattle.rules.specs.Tree.{value, s1, s0, join}
 use Rattle.tree.proofs.nodes.join.Statement.{statement}
 use Rattle.tree.proofs.nodes.join.Tie as tie
 
-s1-requires : tie.Need-s1-requires
-s1-requires c κs = search needs
-
-s1-requires-2 : tie.Need-s1-requires-2
-s1-requires-2 c κs = search needs
-
-s0-requires : tie.Need-s0-requires
-s0-requires c κs = search needs
-
-s0-requires-2 : tie.Need-s0-requires-2
-s0-requires-2 c κs = search needs
-
-value-requires : tie.Need-value-requires
-value-requires c κs = search needs
+-- a value is one of four
+four : {P : Type 0} (v : ℕ) → v < 4 → (v ≡ 0 → P) → (v ≡ 1 → P) → (v ≡ 2 → P) → (v ≡ 3 → P) → P
+four zero l a b c d = a refl
+four (suc zero) l a b c d = b refl
+four (suc (suc zero)) l a b c d = c refl
+four (suc (suc (suc zero))) l a b c d = d refl
+four (suc (suc (suc (suc v)))) l a b c d = absurd (omega arith)
 
 returns : tie.Need-returns
-unfolding join
+unfolding value s1 s0 join
 returns c =
-    let asks-right = c .before in
-    let asks-left = asks-right .before in
-    let head-right = asks-left .before in
-    c .value .ensures
-    ∙ rw (asks-right .s02 .ensures, asks-left .s0 .ensures, head-right .s12 .ensures, head-right .before .s1 .ensures)
+    four (c .args .left) (c .pre .0)
+    (λ e. four (c .args .right) (c .pre .1) (λ f. rw (e, f)) (λ f. rw (e, f)) (λ f. rw (e, f)) (λ f. rw (e, f)))
+    (λ e. four (c .args .right) (c .pre .1) (λ f. rw (e, f)) (λ f. rw (e, f)) (λ f. rw (e, f)) (λ f. rw (e, f)))
+    (λ e. four (c .args .right) (c .pre .1) (λ f. rw (e, f)) (λ f. rw (e, f)) (λ f. rw (e, f)) (λ f. rw (e, f)))
+    (λ e. four (c .args .right) (c .pre .1) (λ f. rw (e, f)) (λ f. rw (e, f)) (λ f. rw (e, f)) (λ f. rw (e, f)))
 
 pub join-spec : {M : Type 1} → statement M
-join-spec =
-    tie.close (tie.spec s1-requires s1-requires-2 s0-requires s0-requires-2 value-requires returns)
+join-spec = tie.close (tie.spec returns)
