@@ -22,14 +22,30 @@ use Rattle.arbiter.specs.Places.{ones, first, highest}
 use Rattle.arbiter.specs.Places.Laws.{first-none, first-some}
 use Rattle.arbiter.specs.Questions as Questions
 use Rattle.arbiter.specs.Questions.{_then_}
-use Rattle.arbiter.specs.Questions.Laws.{then-served, token-served, length-served, read-served}
+use Rattle.arbiter.specs.Questions.Laws.{then-served, width-served, token-served, length-served, read-served}
 use Rattle.arbiter.specs.Decisions.{requested}
 use Rattle.arbiter.specs.Decisions.Laws.{none-granted}
 use Rattle.token_bus.specs.Calls.{state, decision, reading}
 
--- what is known of a cycle once all its questions have passed: r is what they say up to 8, and v the verdict with 9
-pub record Ready (n : ℕ) (h : Head) (requests : List ℕ) (size high : ℕ) : Type 0 where
+-- what is known once 1, 3 and 4 have passed
+pub record Allowed (n : ℕ) (h : Head) : Type 0 where
+  pub most : n ≤ Questions.maxWidth
   pub station : start h < n
+
+pub allowed : (n m : ℕ) (h : Head) → (state n m h) .number ≡ 0 → Allowed n h
+allowed n m h z =
+    let b = then-served (Questions.width n then Questions.onePick m) (Questions.token n h) z in
+    let a = then-served (Questions.width n) (Questions.onePick m) (b .0) in
+    let t = token-served n h (b .1) in
+    let is : start h ≡ t .0 = ap start (t .2) ∙ RoundRobin.start-at (t .0) in
+    record {
+      most = width-served n (a .0) .1;
+      station = omega (arith, is, t .1);
+    }
+
+-- what is known of a cycle once all its questions have passed: r is what they say up to 8
+pub record Ready (n : ℕ) (h : Head) (requests : List ℕ) (size high : ℕ) : Type 0 where
+  pub allows : Allowed n h
   pub asked : length requests ≡ n
   pub room : size ≡ n
   pub heard : high ≡ highest requests
@@ -42,10 +58,8 @@ ready {r} n m h requests size byte e z =
     let c = read-served (five then Questions.writeLength n size) requests e (d .0) in
     let b = then-served five (Questions.writeLength n size) (c .before) in
     let a = then-served (state n m h) (Questions.readLength n (length requests)) (b .0) in
-    let t = token-served n h (then-served (Questions.width n then Questions.onePick m) (Questions.token n h) (a .0) .1) in
-    let is : start h ≡ t .0 = ap start (t .2) ∙ RoundRobin.start-at (t .0) in
     record {
-      station = omega (arith, is, t .1);
+      allows = allowed n m h (a .0);
       asked = length-served 4 n (length requests) (a .1);
       room = length-served 5 n size (b .1);
       heard = c .heard;

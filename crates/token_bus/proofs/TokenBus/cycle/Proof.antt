@@ -62,7 +62,7 @@ grant-requires : tie.Need-grant-requires
 grant-requires c κs =
     let k = c .before .before .before .before in
     let e = asked (k .before .before) in
-    (rw (c .before .first-station .ensures) (e .station), (e .asked, (e .heard, k .clear .ensures ∙ rw (e .room))))
+    (rw (c .before .first-station .ensures) (e .allows .station), (e .asked, (e .heard, k .clear .ensures ∙ rw (e .room))))
 
 served-requires : tie.Need-served-requires
 served-requires c κs = search needs
