@@ -1,3 +1,5 @@
+-- `decide` meets its contract.
+-- Assumes nothing.
 use mathlib.Core.Path.{_∙_}
 use borrow.Author.Tests.{eq-eqb, ne-eqb}
 use borrow.Author.Needs.{needs}

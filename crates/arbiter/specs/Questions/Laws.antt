@@ -126,6 +126,10 @@ pub record Read (unread : Verdict) (bytes : List ℕ) (high : ℕ) : Type 0 wher
   pub bits : Bits bytes
   pub heard : high ≡ highest bytes
 
+-- a reading in hand is told with its verdict
+pub told : {r q : Reading} → r ≡ q → r .verdict ≡ q .verdict
+told e = ap (λ (r : Reading). r .verdict) e
+
 pub read-served : {r : Reading} (unread : Verdict) (bytes : List ℕ) → r ≡ read unread bytes → r .verdict .number ≡ 0
     → Read unread bytes (r .highest)
 read-served unread bytes e z =

@@ -1,11 +1,12 @@
+-- `readable` meets its contract: the questions in their order.
+-- Assumes nothing.
 use mathlib.Core.Path.{_≡_, ap, _∙_}
 use lib.ListN.{length}
-use Rattle.arbiter.specs.declared.question.Reading.{Reading}
+use borrow.Author.Needs.{needs}
 use Rattle.arbiter.specs.declared.question.Verdict.{Verdict}
 use Rattle.arbiter.specs.Questions as Questions
 use Rattle.arbiter.specs.Questions.{_then_}
-use Rattle.arbiter.specs.Questions.Laws.{chained, refused, passed}
-use borrow.Author.Needs.{needs}
+use Rattle.arbiter.specs.Questions.Laws.{chained, refused, passed, told}
 use Rattle.one_hot.proofs.readable.Statement.{statement}
 use Rattle.one_hot.proofs.readable.Tie as tie
 
@@ -30,7 +31,7 @@ read c =
     let t = c .before in
     let a = t .before .before .before .before .args in
     let unread = chained (t .then .ensures) (t .before .before .state .ensures) (t .before .read-length .ensures) in
-    ap (λ (r : Reading). r .verdict) (c .read .ensures) ∙ ap (λ (v : Verdict). v then Questions.bits 0 (a .image .now)) unread
+    told (c .read .ensures) ∙ ap (λ (v : Verdict). v then Questions.bits 0 (a .image .now)) unread
 
 returns : tie.Need-returns
 returns c = refused _ (read (c .before .before .before)) (c .if1 .taken)

@@ -1,4 +1,6 @@
-use Prim.Native.Nat.{_≤_, _<_, _-_}
+-- `walk_run` meets its contract: up to the station found last the run is done.
+-- Assumes nothing.
+use Prim.Native.Nat.{_≤_, _-_}
 use mathlib.Core.Path.{_≡_, sym, _∙_}
 use native.Mathlib.Omega.{arith}
 use lib.ListN.{length, length-set, length-take}

@@ -1,13 +1,15 @@
+-- `count_round` meets its contract: two runs are one walk round.
+-- Assumes nothing.
 use Prim.Native.Nat.{ℕ}
 use mathlib.Core.Path.{_≡_, refl, sym, ap, _∙_}
 use native.Mathlib.Omega.{arith}
 use lib.ListN.{length, length-replicate}
+use borrow.Author.Needs.{needs}
 use Rattle.rules.specs.Thermometer.Laws.{zero-ones, zero-is-code}
 use Rattle.rules.specs.Walk.Laws as Walk
 use Rattle.arbiter.specs.Decisions.{counted}
 use Rattle.arbiter.specs.Decisions.Laws.{walked, quiet-decides, quiet-grants}
 use Rattle.arbiter.specs.Places.{highest}
-use borrow.Author.Needs.{needs}
 use Rattle.thermometer.proofs.count_round.Statement.{statement}
 use Rattle.thermometer.proofs.count_round.Tie as tie
 

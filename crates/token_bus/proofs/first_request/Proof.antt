@@ -1,6 +1,8 @@
+-- `first_request` meets its contract: first those from the token on, then all.
+-- Assumes nothing.
 use mathlib.Core.Path.{sym, _∙_}
-use Rattle.token_bus.specs.Calls.Laws.{found-none, found-high, found-low}
 use borrow.Author.Needs.{needs}
+use Rattle.token_bus.specs.Calls.Laws.{found-none, found-high, found-low}
 use Rattle.token_bus.proofs.first_request.Statement.{statement}
 use Rattle.token_bus.proofs.first_request.Tie as tie
 

@@ -1,6 +1,8 @@
+-- `pass` meets its contract.
+-- Assumes nothing.
 use mathlib.Core.Path.{_∙_}
-use Rattle.arbiter.specs.Decisions.Laws.{past-station}
 use borrow.Author.Needs.{needs}
+use Rattle.arbiter.specs.Decisions.Laws.{past-station}
 use Rattle.token_bus.proofs.pass.Statement.{statement}
 use Rattle.token_bus.proofs.pass.Tie as tie
 

@@ -1,12 +1,14 @@
+-- `grant` meets its contract.
+-- Assumes nothing.
 use Prim.Native.Nat.{ℕ, _+_, _<_}
 use mathlib.Core.Path.{_≡_, sym, ap, _∙_}
 use native.Mathlib.Omega.{arith}
 use lib.ListN.{length, getD, length-replicate}
+use borrow.Author.Needs.{needs}
 use Rattle.rules.specs.Tree.{s0, reached}
 use Rattle.rules.specs.Tree.Laws.{reached-station}
 use Rattle.arbiter.specs.Decisions.Laws.{counted-one}
 use Rattle.tree.specs.Steps.Laws.{descended-one, descended-none, grants-one, grants-none}
-use borrow.Author.Needs.{needs}
 use Rattle.tree.proofs.grant.Statement.{statement}
 use Rattle.tree.proofs.grant.Tie as tie
 

@@ -1,10 +1,12 @@
+-- `read` meets its contract: where the highest byte is at most 1, no place is looked for.
+-- Assumes nothing.
 use Prim.Native.Nat.{_≤_}
 use native.Mathlib.Omega.{arith}
 use borrow.Author.Tests.{eq-eqb, ne-eqb}
+use borrow.Author.Needs.{needs}
 use Rattle.arbiter.specs.Places.{highest}
 use Rattle.arbiter.specs.Questions.{_then_}
 use Rattle.arbiter.specs.Questions.Laws.{highest-passes}
-use borrow.Author.Needs.{needs}
 use Rattle.arbiter.proofs.question.read.Statement.{statement}
 use Rattle.arbiter.proofs.question.read.Tie as tie
 

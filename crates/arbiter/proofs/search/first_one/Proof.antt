@@ -1,3 +1,5 @@
+-- `first_one` meets its contract: no byte that it passed is 1, whether alone or with seven others.
+-- Assumes nothing.
 use Prim.Native.Nat.{ℕ, _+_, _-_, _≤_, _<_}
 use mathlib.Core.Path.{_≡_, sym, ap, _∙_}
 use native.Mathlib.Omega.{arith}

@@ -1,3 +1,5 @@
+-- `highest` meets its contract: what it has, and the highest of the bytes to come, is the highest of all.
+-- Assumes nothing.
 use Prim.Native.Nat.{_-_, max}
 use mathlib.Core.Path.{_≡_}
 use mathlib.Core.Logic.{⊎-elim}

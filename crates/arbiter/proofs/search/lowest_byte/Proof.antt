@@ -1,3 +1,5 @@
+-- `lowest_byte` meets its contract.
+-- Assumes nothing.
 use native.Mathlib.Omega.{arith}
 use lib.Count.{trailing-le}
 use borrow.Author.Needs.{needs}

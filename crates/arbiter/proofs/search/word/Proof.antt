@@ -1,6 +1,8 @@
+-- `word` meets its contract.
+-- Assumes nothing.
 use native.Mathlib.Omega.{arith}
-use Rattle.arbiter.specs.Words.Laws.{spelled}
 use borrow.Author.Needs.{needs}
+use Rattle.arbiter.specs.Words.Laws.{spelled}
 use Rattle.arbiter.proofs.search.word.Statement.{statement}
 use Rattle.arbiter.proofs.search.word.Tie as tie
 

@@ -1,12 +1,12 @@
-use mathlib.Core.Path.{_≡_, ap, _∙_}
+-- `cycle` meets its contract: it asks its questions, and then a walk round gives the rule's answer and grants.
+-- Assumes nothing.
+use mathlib.Core.Path.{ap, _∙_}
 use lib.ListN.{length}
+use borrow.Author.Needs.{needs}
 use Rattle.arbiter.specs.declared.Decision.{Decision}
-use Rattle.arbiter.specs.declared.question.Reading.{Reading}
 use Rattle.arbiter.specs.Answers.{decided}
 use Rattle.arbiter.specs.Answers.Laws.{written, unwritten}
-use Rattle.arbiter.specs.Cycle.{questions}
-use Rattle.arbiter.specs.Questions.Laws.{Ready, ready}
-use borrow.Author.Needs.{needs}
+use Rattle.arbiter.specs.Questions.Laws.{Ready, ready, told}
 use Rattle.scan.proofs.Scan.cycle.Statement.{statement}
 use Rattle.scan.proofs.Scan.cycle.Tie as tie
 
@@ -16,15 +16,8 @@ cycle-requires c κs = search needs
 refused-requires : tie.Need-refused-requires
 refused-requires c κs = search needs
 
--- the verdict
-verdict : (c : tie.After-cycle)
-    → let a = c .before .before .before .before .args in
-    let s = a .self .0 in
-    c .cycle .result .verdict ≡ questions s (a .requests .now) (length (a .grants .now))
-verdict c = ap (λ (r : Reading). r .verdict) (c .cycle .ensures)
-
 returns : tie.Need-returns
-returns c = unwritten _ _ _ (verdict (c .before .before .before .before)) (c .before .if1 .taken) (c .refused .ensures)
+returns c = let q = c .before .before .before .before in unwritten _ _ _ (told (q .cycle .ensures)) (c .before .if1 .taken) (c .refused .ensures)
 
 -- what is known once the questions have passed
 asked : (c : tie.Else1)
@@ -55,7 +48,7 @@ returns-2 c =
     let e = w .before .before .before .before .before .before in
     let q = e .before .before .before in
     let s = q .before .before .before .before .args .self .0 in
-    written _ _ (verdict q) (e .if1 .left)
+    written _ _ (told (q .cycle .ensures)) (e .if1 .left)
     (c .served .ensures ∙ ap (λ (d : Decision). decided s d) (w .walk-round .ensures .0))
     (w .walk-round .ensures .1)
 

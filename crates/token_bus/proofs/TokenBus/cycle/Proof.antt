@@ -1,18 +1,19 @@
+-- `cycle` meets its contract: it asks its questions, and then grants.
+-- Assumes nothing.
 use Prim.Native.Nat.{ℕ}
-use mathlib.Core.Path.{_≡_, sym, ap, _∙_}
+use mathlib.Core.Path.{sym, ap, _∙_}
 use lib.ListN.{length}
+use borrow.Author.Needs.{needs}
 use Rattle.rules.specs.Bus as Bus
 use Rattle.arbiter.specs.declared.Decision.{Decision}
-use Rattle.arbiter.specs.declared.question.Reading.{Reading}
 use Rattle.arbiter.specs.declared.question.Verdict.{Verdict}
 use Rattle.arbiter.specs.Answers.{decided}
 use Rattle.arbiter.specs.Answers.Laws.{written, unwritten}
 use Rattle.arbiter.specs.Cycle.{asking}
 use Rattle.arbiter.specs.Questions.{_then_}
-use Rattle.arbiter.specs.Questions.Laws.{chained}
-use Rattle.token_bus.specs.Calls.{acknowledged, decision, questions}
+use Rattle.arbiter.specs.Questions.Laws.{chained, told}
+use Rattle.token_bus.specs.Calls.{acknowledged, decision}
 use Rattle.token_bus.specs.Calls.Laws.{Ready, ready}
-use borrow.Author.Needs.{needs}
 use Rattle.token_bus.proofs.TokenBus.cycle.Statement.{statement}
 use Rattle.token_bus.proofs.TokenBus.cycle.Tie as tie
 
@@ -28,17 +29,11 @@ then-requires c κs = search needs
 refused-requires : tie.Need-refused-requires
 refused-requires c κs = search needs
 
--- the verdict, 9 included
-verdict : (c : tie.After-then)
-    → let a = c .before .before .before .before .before .before .before .args in
-    let s = a .self .0 in
-    c .then .result ≡ questions (s .width) (s .picks) (s .head) (a .requests .now) (length (a .grants .now)) (a .acknowledge)
-verdict c =
-    let q = c .before .before .before in
-    chained (c .then .ensures) (ap (λ (r : Reading). r .verdict) (q .cycle .ensures)) (c .before .acknowledge .ensures)
-
 returns : tie.Need-returns
-returns c = unwritten _ _ _ (verdict (c .before .before .before)) (c .before .if1 .taken) (c .refused .ensures)
+returns c =
+    let t = c .before .before .before in
+    let q = t .before .before .before in
+    unwritten _ _ _ (chained (t .then .ensures) (told (q .cycle .ensures)) (t .before .acknowledge .ensures)) (c .before .if1 .taken) (c .refused .ensures)
 
 -- what is known once the questions have passed
 asked : (c : tie.Else1)
@@ -76,10 +71,11 @@ returns-2 c =
     let f = w .before .before in
     let e = f .before .before .before .before .before in
     let t = e .before .before in
-    let a = t .before .before .before .before .before .before .before .args in
+    let q = t .before .before .before in
+    let a = q .before .before .before .before .args in
     let s = a .self .0 in
     let asks = asking s (a .requests .now) in
-    written _ _ (verdict t) (e .if1 .left)
+    written _ _ (chained (t .then .ensures) (told (q .cycle .ensures)) (t .before .acknowledge .ensures)) (e .if1 .left)
     (c .served .ensures
     ∙ ap (λ (d : Decision). decided s d)
     (w .grant .ensures .0 ∙ ap (λ (t : ℕ). decision (s .width) t (acknowledged (a .acknowledge)) asks) (f .first-station .ensures)))

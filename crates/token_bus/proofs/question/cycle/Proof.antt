@@ -1,8 +1,10 @@
+-- `cycle` meets its contract: the questions in their order.
+-- Assumes nothing.
 use mathlib.Core.Path.{ap, _∙_}
+use borrow.Author.Needs.{needs}
 use Rattle.arbiter.specs.declared.question.Verdict.{Verdict}
 use Rattle.arbiter.specs.Questions as Questions
 use Rattle.arbiter.specs.Questions.Laws.{chained}
-use borrow.Author.Needs.{needs}
 use Rattle.token_bus.proofs.question.cycle.Statement.{statement}
 use Rattle.token_bus.proofs.question.cycle.Tie as tie
 

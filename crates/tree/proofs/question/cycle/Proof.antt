@@ -1,10 +1,11 @@
+-- `cycle` meets its contract: the questions in their order.
+-- Assumes nothing.
 use mathlib.Core.Path.{ap, _∙_}
-use Rattle.arbiter.specs.declared.question.Reading.{Reading}
+use borrow.Author.Needs.{needs}
 use Rattle.arbiter.specs.declared.question.Verdict.{Verdict}
 use Rattle.arbiter.specs.Questions as Questions
 use Rattle.arbiter.specs.Questions.{_then_}
-use Rattle.arbiter.specs.Questions.Laws.{chained}
-use borrow.Author.Needs.{needs}
+use Rattle.arbiter.specs.Questions.Laws.{chained, told}
 use Rattle.tree.proofs.question.cycle.Statement.{statement}
 use Rattle.tree.proofs.question.cycle.Tie as tie
 
@@ -41,7 +42,7 @@ returns c =
     let a = r .before .before .before .args in
     let five = chained (t .before .before .then .ensures) (r .before .state .ensures) (r .read-length .ensures) in
     let unread = chained (t .then3 .ensures) (chained (t .before .then2 .ensures) five (w .write-length .ensures)) (n .nodes-length .ensures) in
-    ap (λ (x : Reading). x .verdict) (c .before .read .ensures) ∙ ap (λ (v : Verdict). v then Questions.bits 0 (a .requests .now)) unread
+    told (c .before .read .ensures) ∙ ap (λ (v : Verdict). v then Questions.bits 0 (a .requests .now)) unread
 
 pub cycle-spec : {M : Type 1} → statement M
 cycle-spec =
