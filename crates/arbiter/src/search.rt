@@ -32,11 +32,11 @@ pub fn first_one(from: usize, bytes: &[u8]) -> Head
     let last = bytes.len() - 8;
     let mut i = from;
     while i <= last {
-        let eight = word(bytes, i);
-        if eight == 0 {
+        let word = eight(bytes, i);
+        if word == 0 {
             i += 8;
         } else {
-            let place = i + lowest_byte(eight);
+            let place = i + lowest_byte(word);
             if bytes[place] == 1 {
                 return Head::At(place);
             }
@@ -61,18 +61,27 @@ fn first_of_few(from: usize, bytes: &[u8]) -> Head
 }
 
 // The eight bytes from `i` on as one number, the first of them lowest. The compiler makes one load of it.
-fn word(bytes: &[u8], i: usize) -> u64
+fn eight(bytes: &[u8], i: usize) -> u64
     requires { ⌜ i + 8 ≤ length (now bytes) ⌝ }
     ensures { λ r. ⌜ r ≡ Words.number (take 8 (drop i (now (bytes .entry)))) ⌝ }
 {
-    wide(bytes[i])
-        + wide(bytes[i + 1]) * 0x100
-        + wide(bytes[i + 2]) * 0x1_0000
-        + wide(bytes[i + 3]) * 0x100_0000
-        + wide(bytes[i + 4]) * 0x1_0000_0000
-        + wide(bytes[i + 5]) * 0x100_0000_0000
-        + wide(bytes[i + 6]) * 0x1_0000_0000_0000
-        + wide(bytes[i + 7]) * 0x100_0000_0000_0000
+    four(bytes, i) + four(bytes, i + 4) * 0x1_0000_0000
+}
+
+// Four of them.
+fn four(bytes: &[u8], i: usize) -> u64
+    requires { ⌜ i + 4 ≤ length (now bytes) ⌝ }
+    ensures { λ r. ⌜ (r ≡ Words.number (take 4 (drop i (now (bytes .entry))))) × (r < 4294967296) ⌝ }
+{
+    two(bytes, i) + two(bytes, i + 2) * 0x1_0000
+}
+
+// And two.
+fn two(bytes: &[u8], i: usize) -> u64
+    requires { ⌜ i + 2 ≤ length (now bytes) ⌝ }
+    ensures { λ r. ⌜ (r ≡ Words.number (take 2 (drop i (now (bytes .entry))))) × (r < 65536) ⌝ }
+{
+    wide(bytes[i]) + wide(bytes[i + 1]) * 0x100
 }
 
 // A byte as a wide number.

@@ -2,13 +2,13 @@
 -- Assumes nothing.
 use Prim.Native.Nat.{ℕ, zero, suc, _+_, _-_, _*_, _/_, _%_, _^_, _≤_, _<_}
 use mathlib.Core.Path.{_≡_, refl, sym, ap, _∙_}
-use mathlib.Core.List.{List, [], _∷_}
+use mathlib.Core.List.{List, [], _∷_, _++_}
 use native.Mathlib.Nat.{zero-add, pow-suc, mul-comm, mul-assoc}
 use native.Mathlib.Omega.{arith}
 use lib.Count.{trailingZeros}
 use lib.Dec.{eqb}
 use lib.ListN.{length, getD, take, drop, length-drop}
-use lib.Seq.{length-take-le, drop-cons, getD-take, getD-drop}
+use lib.Seq.{length-take-le, drop-cons, drop-drop, take-add, getD-take, getD-drop}
 use borrow.Author.Tests.{eqb-true, eqb-false}
 use Rattle.rules.specs.Lists.Laws as Lists
 use Rattle.arbiter.specs.Words.{number}
@@ -117,25 +117,23 @@ module _ (bytes : List ℕ) (i : ℕ) (room : i + 8 ≤ length bytes) where
             rw k at (sym (at (w - i) (omega (arith, r .within, long))) ∙ r .zeros (w - i) (omega arith)),
       )
 
--- one byte of the number, and the number of those after it
-next : (bytes : List ℕ) (k i j : ℕ) → j ≡ i + 1 → i < length bytes
-    → number (take (suc k) (drop i bytes)) ≡ getD bytes i 0 + 256 * number (take k (drop j bytes))
-next bytes k i j e l =
-    let up : j ≡ suc i = omega arith in
-    ap (λ (l : List ℕ). number (take (suc k) l)) (drop-cons bytes i 0 l) ∙ rw up
+-- the bytes of one list, and above them those of another
+append : (xs ys : List ℕ) → number (xs ++ ys) ≡ number xs + 256 ^ length xs * number ys
+append [] ys = omega arith
+append (x ∷ xs) ys =
+    let more : 256 ^ suc (length xs) * number ys ≡ 256 * (256 ^ length xs * number ys) =
+    rw (pow-suc 256 (length xs), mul-comm (256 ^ length xs) 256) (mul-assoc 256 (256 ^ length xs) (number ys)) in
+    omega (arith, append xs ys, more)
 
--- all eight
-pub spelled : (bytes : List ℕ) (i : ℕ) → i + 8 ≤ length bytes → number (take 8 (drop i bytes))
-    ≡ getD bytes i 0 + 256 * (getD bytes (i + 1) 0 + 256 * (getD bytes (i + 2) 0 + 256 * (getD bytes (i + 3) 0
-    + 256 * (getD bytes (i + 4) 0 + 256 * (getD bytes (i + 5) 0 + 256 * (getD bytes (i + 6) 0 + 256 * getD bytes (i + 7) 0))))))
-spelled bytes i l =
-    rw (
-      next bytes 7 i (i + 1) (omega arith) (omega arith),
-      next bytes 6 (i + 1) (i + 2) (omega arith) (omega arith),
-      next bytes 5 (i + 2) (i + 3) (omega arith) (omega arith),
-      next bytes 4 (i + 3) (i + 4) (omega arith) (omega arith),
-      next bytes 3 (i + 4) (i + 5) (omega arith) (omega arith),
-      next bytes 2 (i + 5) (i + 6) (omega arith) (omega arith),
-      next bytes 1 (i + 6) (i + 7) (omega arith) (omega arith),
-      next bytes 0 (i + 7) (i + 8) (omega arith) (omega arith),
-    ) (omega arith)
+-- so a number is put together from two parts
+pub parts : (k j : ℕ) (bytes : List ℕ) (i : ℕ) → i + k ≤ length bytes
+    → number (take (k + j) (drop i bytes)) ≡ number (take k (drop i bytes)) + 256 ^ k * number (take j (drop (i + k) bytes))
+parts k j bytes i l =
+    let long : length (take k (drop i bytes)) ≡ k = length-take-le k (drop i bytes) (omega (arith, length-drop i bytes)) in
+    ap number (take-add k j (drop i bytes))
+    ∙ append (take k (drop i bytes)) (take j (drop k (drop i bytes)))
+    ∙ rw (long, drop-drop k i bytes)
+
+-- and one byte is its own
+pub single : (bytes : List ℕ) (i : ℕ) → i < length bytes → number (take 1 (drop i bytes)) ≡ getD bytes i 0
+single bytes i l = ap (λ (xs : List ℕ). number (take 1 xs)) (drop-cons bytes i 0 l) ∙ (omega arith)

@@ -31,8 +31,8 @@ sub-last c = omega arith
 loop-holds : tie.Need-loop-holds Inv-loop μ-loop
 loop-holds c = (omega arith, free-none)
 
-word-requires : tie.Need-word-requires Inv-loop μ-loop
-word-requires c κs = omega arith
+eight-requires : tie.Need-eight-requires Inv-loop μ-loop
+eight-requires c κs = omega arith
 
 add-i : tie.Need-add-i Inv-loop μ-loop
 add-i c = omega arith
@@ -45,7 +45,7 @@ loop-again c =
     let l = c .before .before .before .loop in
     let b = c .before .before .before .before .before .before .args .bytes .now in
     let room : l .i + 8 ≤ length b = omega arith in
-    let none = quiet b (l .i) room (sym (c .before .word .ensures) ∙ c .if2 .taken) in
+    let none = quiet b (l .i) room (sym (c .before .eight .ensures) ∙ c .if2 .taken) in
     (omega arith, free-on (l .inv .1) (λ k a u. ap (λ (x : ℕ). eqb x 1) (none k a u)))
 
 -- where the lowest byte of the eight that is not 0 stands
@@ -58,7 +58,7 @@ lowest c =
     let l = c .before .before .before .before .loop in
     let s = c .before .before .before .before .before .before in
     let b = s .before .args .bytes .now in
-    let w = c .before .before .word .ensures in
+    let w = c .before .before .eight .ensures in
     loud b (l .i) (omega arith) (λ k. omega (arith, s .shared-slice-known .given k)) (λ z. c .before .if2 .left (w ∙ z)) _ (rw (← w) (ap (λ (x : ℕ). l .i + x) (c .lowest-byte .ensures)))
 
 lowest-byte-requires : tie.Need-lowest-byte-requires Inv-loop μ-loop
@@ -110,7 +110,7 @@ first-one-spec =
     returns
     sub-last
     loop-holds
-    word-requires
+    eight-requires
     add-i
     loop-less
     loop-again
