@@ -17,6 +17,9 @@ ghost use Rattle.tree.specs.Steps as Steps;
 // The most pairs of a level.
 const MAX_PAIRS: usize = MAX_WIDTH / 2;
 
+// No more nodes than these are joined one by one.
+const FEW_NODES: usize = 16;
+
 // Writes the tree of these requests and the head.
 pub(crate) fn build(width: usize, head: Head, requests: &[u8], nodes: &mut [u8])
     requires { ⌜ 1 ≤ width ⌝ }
@@ -74,7 +77,7 @@ fn join_all(width: usize, nodes: &mut [u8])
     nodes[0] = 0;
 }
 
-// Joins whole levels while more than 16 nodes are left, and says from which node on the buffer is done. A level's children are
+// Joins whole levels while more than a few nodes are left, and says from which node on the buffer is done. A level's children are
 // read before any of its nodes is written, so that the compiler can join many at once. A small tree makes no array.
 fn join_levels(width: usize, nodes: &mut [u8]) -> usize
     requires { ⌜ 1 ≤ width ⌝ }
@@ -83,12 +86,12 @@ fn join_levels(width: usize, nodes: &mut [u8]) -> usize
     requires { ⌜ Steps.ValuesFrom width width (now nodes) ⌝ }
     ensures { λ r. ⌜ Steps.DoneFrom r width (Rule.joined (width - 1) (drop width (now (nodes .entry)))) (now (nodes .exit)) ⌝ }
 {
-    if width <= 16 {
+    if width <= FEW_NODES {
         return width;
     }
     let mut pairs = [0u16; MAX_PAIRS];
     let mut low = width;
-    while 16 < low {
+    while FEW_NODES < low {
         let from = low - low / 2;
         read_pairs(from, low, nodes, &mut pairs);
         join_pairs(from, low, &pairs, nodes);

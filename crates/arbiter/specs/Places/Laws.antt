@@ -127,7 +127,7 @@ pub highest-next : (bytes : List ℕ) (i : ℕ) → i < length bytes
 unfolding highest
 highest-next bytes i l = ap highest (drop-cons bytes i 0 l) ∙ rw add-one
 
--- no byte is higher, and one is as high
+-- no byte is higher, and a number that no byte is above it is not above either
 pub highest-most : (bytes : List ℕ) (i : ℕ) → getD bytes i 0 ≤ highest bytes
 unfolding highest
 highest-most [] i = omega arith

@@ -166,7 +166,7 @@ writable n m h stated length e z =
     let both = then-served (state n m h) (writeLength stated length) (ap (λ (v : Verdict). v .number) (sym e) ∙ z) in
     record { allows = allowed n m h (both .0); long = length-served 5 stated length (both .1) }
 
--- what is known of a cycle once 1, 3, 4, 5, 6 and 8 have passed: r is what they say
+-- what is known of a cycle once 1, 3, 4, 5, 6 and 8 have passed: r is what they say, and `high` the highest byte in hand
 pub record Ready (n m : ℕ) (h : Head) (requests : List ℕ) (size high : ℕ) : Type 0 where
   pub allows : Allowed n m h
   pub asked : length requests ≡ n

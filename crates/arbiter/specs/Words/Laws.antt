@@ -18,16 +18,17 @@ more : ℕ → ℕ → ℕ
 more zero k = k
 more (suc j) k = suc (more j k)
 
-scaled : (j r : ℕ) → 2 ^ suc j * r ≡ 2 * (2 ^ j * r)
-scaled j r = rw (pow-suc 2 j, mul-comm (2 ^ j) 2) (mul-assoc 2 (2 ^ j) r)
+-- a number with one digit more below it, in base b
+scaled : (b j r : ℕ) → b ^ suc j * r ≡ b * (b ^ j * r)
+scaled b j r = rw (pow-suc b j, mul-comm (b ^ j) b) (mul-assoc b (b ^ j) r)
 
 -- where the lowest j digits are 0, the others' trailing zeros come on top of them
 low-zero : (j k r : ℕ) → trailingZeros (more j k) (2 ^ j * r) ≡ j + trailingZeros k r
 unfolding trailingZeros more
 low-zero zero k r = let e : 1 * r ≡ r = omega arith in rw (e, zero-add)
 low-zero (suc j) k r =
-    let even : (2 ^ suc j * r) % 2 ≡ 0 = omega (arith, scaled j r) in
-    let half : (2 ^ suc j * r) / 2 ≡ 2 ^ j * r = omega (arith, scaled j r) in
+    let even : (2 ^ suc j * r) % 2 ≡ 0 = omega (arith, scaled 2 j r) in
+    let half : (2 ^ suc j * r) / 2 ≡ 2 ^ j * r = omega (arith, scaled 2 j r) in
     rw (even, half) (ap suc (low-zero j k r) ∙ (omega arith))
 
 -- where they are not, the trailing zeros are among them
@@ -36,12 +37,12 @@ unfolding trailingZeros more
 low-some zero k b r some small = absurd (omega arith)
 low-some (suc j) k b r some small =
     let n = b + 2 ^ suc j * r in
-    let half : n / 2 ≡ b / 2 + 2 ^ j * r = omega (arith, scaled j r) in
+    let half : n / 2 ≡ b / 2 + 2 ^ j * r = omega (arith, scaled 2 j r) in
     Lists.split (eqb (b % 2) 0)
     (λ e.
-    let even : n % 2 ≡ 0 = omega (arith, scaled j r, eqb-true (b % 2) 0 e) in
+    let even : n % 2 ≡ 0 = omega (arith, scaled 2 j r, eqb-true (b % 2) 0 e) in
     rw (even, half) (omega (arith, low-some j k (b / 2) r (omega (arith, eqb-true (b % 2) 0 e)) (omega (arith, pow-suc 2 j)))))
-    (λ e. let odd : n % 2 ≡ 1 = omega (arith, scaled j r, eqb-false (b % 2) 0 e) in rw odd (omega arith))
+    (λ e. let odd : n % 2 ≡ 1 = omega (arith, scaled 2 j r, eqb-false (b % 2) 0 e) in rw odd (omega arith))
 
 -- all the digits of some bytes
 digits : List ℕ → ℕ
@@ -120,10 +121,7 @@ module _ (bytes : List ℕ) (i : ℕ) (room : i + 8 ≤ length bytes) where
 -- the bytes of one list, and above them those of another
 append : (xs ys : List ℕ) → number (xs ++ ys) ≡ number xs + 256 ^ length xs * number ys
 append [] ys = omega arith
-append (x ∷ xs) ys =
-    let more : 256 ^ suc (length xs) * number ys ≡ 256 * (256 ^ length xs * number ys) =
-    rw (pow-suc 256 (length xs), mul-comm (256 ^ length xs) 256) (mul-assoc 256 (256 ^ length xs) (number ys)) in
-    omega (arith, append xs ys, more)
+append (x ∷ xs) ys = omega (arith, append xs ys, scaled 256 (length xs) (number ys))
 
 -- so a number is put together from two parts
 pub parts : (k j : ℕ) (bytes : List ℕ) (i : ℕ) → i + k ≤ length bytes

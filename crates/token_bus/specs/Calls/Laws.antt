@@ -43,7 +43,7 @@ allowed n m h z =
       station = omega (arith, is, t .1);
     }
 
--- what is known of a cycle once all its questions have passed: r is what they say up to 8
+-- what is known of a cycle once all its questions have passed: r is what they say up to 8, and `high` the highest byte in hand
 pub record Ready (n : ℕ) (h : Head) (requests : List ℕ) (size high : ℕ) : Type 0 where
   pub allows : Allowed n h
   pub asked : length requests ≡ n
