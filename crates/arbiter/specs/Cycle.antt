@@ -32,7 +32,7 @@ granting s requests = grants (s .width) (s .picks) (s .head) (asking s requests)
 
 -- the questions of a cycle with these requests and a grant buffer of this length: 1, 3, 4, 5, 6 and 8
 abbrev pub questions : State → List ℕ → ℕ → Verdict
-questions s requests size = (Questions.cycle (s .width) (s .picks) (s .head) requests size) .verdict
+questions s requests size = (Questions.cycle (Questions.state (s .width) (s .picks) (s .head)) (s .width) requests size) .verdict
 
 -- a cycle, with the grant buffer's former bytes
 abbrev pub cycle : State → List ℕ → List ℕ → Outcome

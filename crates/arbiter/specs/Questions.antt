@@ -112,6 +112,6 @@ state n m h = width n then picks n m then head n h
 abbrev pub write : ℕ → ℕ → Head → ℕ → ℕ → Verdict
 write n m h stated length = state n m h then writeLength stated length
 
--- those of a cycle with these requests and a grant buffer of this length: 1, 3, 4, 5, 6 and 8
-abbrev pub cycle : ℕ → ℕ → Head → List ℕ → ℕ → Reading
-cycle n m h requests size = read (state n m h then readLength n (length requests) then writeLength n size) requests
+-- those of a cycle with these requests and a grant buffer of this length, after those about its state: 5, 6 and 8
+abbrev pub cycle : Verdict → ℕ → List ℕ → ℕ → Reading
+cycle byState n requests size = read (byState then readLength n (length requests) then writeLength n size) requests

@@ -152,11 +152,10 @@ pub fn write(width: usize, picks: usize, head: Head, stated: usize, length: usiz
     by_state.then(by_length)
 }
 
-// Questions 1, 3, 4, 5, 6 and 8 of a cycle of the plain scan or the thermometer arbiter, whose grant buffer has `length` bytes.
-pub fn cycle(width: usize, picks: usize, head: Head, requests: &[u8], length: usize) -> Reading
-    ensures { λ r. ⌜ r ≡ Questions.cycle width picks head (now (requests .entry)) length ⌝ }
+// Questions 5, 6 and 8 of a cycle, after those about its state, whose verdict is `by_state`. Its grant buffer has `length` bytes.
+pub fn cycle(by_state: Verdict, width: usize, requests: &[u8], length: usize) -> Reading
+    ensures { λ r. ⌜ r ≡ Questions.cycle «by_state» width (now (requests .entry)) length ⌝ }
 {
-    let by_state = state(width, picks, head);
     let by_requests = read_length(width, requests.len());
     let by_grants = write_length(width, length);
     read(by_state.then(by_requests).then(by_grants), requests)

@@ -128,7 +128,7 @@ bus-served byte s requests former z =
     let is = writes-is v s (Bus.answer s requests byte) (Bus.granting s requests) former p in
     record {
       token = r .allows .station;
-      asked = r .asked;
+      asked = r .lends .asked;
       answers = ap (λ (o : Outcome). o .answer) is;
       grants = ap (λ (o : Outcome). o .written) is;
     }

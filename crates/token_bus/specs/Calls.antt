@@ -12,7 +12,6 @@ use Rattle.rules.specs.Bus as Bus
 use Rattle.arbiter.specs.declared.Answer.{Answer}
 use Rattle.arbiter.specs.declared.Decision.{Decision}
 use Rattle.arbiter.specs.declared.State.{State}
-use Rattle.arbiter.specs.declared.question.Reading.{Reading}
 use Rattle.arbiter.specs.declared.question.Verdict.{Verdict}
 use Rattle.arbiter.specs.Questions as Questions
 use Rattle.arbiter.specs.Questions.{_then_}
@@ -48,14 +47,9 @@ answer s requests byte = decided s (decision (s .width) (token s) (acknowledged 
 abbrev pub granting : State → List ℕ → List ℕ
 granting s requests = Bus.grants (s .width) (token s) (asking s requests)
 
--- the questions of a cycle with these requests and a grant buffer of this length, up to 8: 1, 3, 4, 5, 6 and 8
-abbrev pub reading : ℕ → ℕ → Head → List ℕ → ℕ → Reading
-reading n m h requests size =
-    Questions.read (state n m h then Questions.readLength n (length requests) then Questions.writeLength n size) requests
-
--- and 9, of this acknowledge byte
+-- the questions of a cycle with these requests, a grant buffer of this length and this acknowledge byte: 1, 3, 4, 5, 6, 8 and 9
 abbrev pub questions : ℕ → ℕ → Head → List ℕ → ℕ → ℕ → Verdict
-questions n m h requests size byte = (reading n m h requests size) .verdict then Questions.acknowledge byte
+questions n m h requests size byte = (Questions.cycle (state n m h) n requests size) .verdict then Questions.acknowledge byte
 
 -- a cycle, with the grant buffer's former bytes
 abbrev pub cycle : State → List ℕ → List ℕ → ℕ → Outcome

@@ -50,7 +50,8 @@ impl TokenBus {
     {
         let s = self.0;
         let head = s.head;
-        let reading = question::cycle(s.width, s.picks, head, requests, grants.len());
+        let by_state = question::state(s.width, s.picks, head);
+        let reading = arbiter::question::cycle(by_state, s.width, requests, grants.len());
         let read = reading.verdict;
         let verdict = read.then(question::acknowledge(acknowledge));
         if verdict.number != refusal::SERVED {

@@ -1,6 +1,5 @@
 // The questions that the token bus asks. Those that are the bus's alone stand here, the others in `arbiter`.
 use arbiter::question;
-use arbiter::question::Reading;
 use arbiter::question::Verdict;
 use arbiter::refusal;
 use rules::Head;
@@ -33,20 +32,4 @@ pub(crate) fn state(width: usize, picks: usize, head: Head) -> Verdict
     let by_picks = question::one_pick(picks);
     let by_token = token(width, head);
     by_width.then(by_picks).then(by_token)
-}
-
-// Questions 1, 3, 4, 5, 6 and 8 of a cycle whose grant buffer has this length.
-pub(crate) fn cycle(
-    width: usize,
-    picks: usize,
-    head: Head,
-    requests: &[u8],
-    length: usize,
-) -> Reading
-    ensures { λ r. ⌜ r ≡ Calls.reading width picks head (now (requests .entry)) length ⌝ }
-{
-    let by_state = state(width, picks, head);
-    let by_requests = question::read_length(width, requests.len());
-    let by_grants = question::write_length(width, length);
-    question::read(by_state.then(by_requests).then(by_grants), requests)
 }

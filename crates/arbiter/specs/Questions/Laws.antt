@@ -166,28 +166,38 @@ writable n m h stated length e z =
     let both = then-served (state n m h) (writeLength stated length) (ap (λ (v : Verdict). v .number) (sym e) ∙ z) in
     record { allows = allowed n m h (both .0); long = length-served 5 stated length (both .1) }
 
--- what is known of a cycle once 1, 3, 4, 5, 6 and 8 have passed: r is what they say, and `high` the highest byte in hand
-pub record Ready (n m : ℕ) (h : Head) (requests : List ℕ) (size high : ℕ) : Type 0 where
-  pub allows : Allowed n m h
+-- what is known of a cycle once 5, 6 and 8 have passed, after those about its state: `high` is the highest byte in hand
+pub record Lent (byState : Verdict) (n : ℕ) (requests : List ℕ) (size high : ℕ) : Type 0 where
+  pub before : byState .number ≡ 0
   pub asked : length requests ≡ n
   pub room : size ≡ n
   pub wires : Bits requests
   pub heard : high ≡ highest requests
 
-pub ready : {r : Reading} (n m : ℕ) (h : Head) (requests : List ℕ) (size : ℕ) → r ≡ cycle n m h requests size
-    → r .verdict .number ≡ 0 → Ready n m h requests size (r .highest)
-ready n m h requests size e z =
-    let five = state n m h then readLength n (length requests) in
+pub lent : {r : Reading} (byState : Verdict) (n : ℕ) (requests : List ℕ) (size : ℕ) → r ≡ cycle byState n requests size
+    → r .verdict .number ≡ 0 → Lent byState n requests size (r .highest)
+lent byState n requests size e z =
+    let five = byState then readLength n (length requests) in
     let c = read-served (five then writeLength n size) requests e z in
     let b = then-served five (writeLength n size) (c .before) in
-    let a = then-served (state n m h) (readLength n (length requests)) (b .0) in
+    let a = then-served byState (readLength n (length requests)) (b .0) in
     record {
-      allows = allowed n m h (a .0);
+      before = a .0;
       asked = length-served 4 n (length requests) (a .1);
       room = length-served 5 n size (b .1);
       wires = c .bits;
       heard = c .heard;
     }
+
+-- what is known of a cycle once 1, 3, 4, 5, 6 and 8 have passed: r is what they say
+pub record Ready (n m : ℕ) (h : Head) (requests : List ℕ) (size high : ℕ) : Type 0 where
+  pub allows : Allowed n m h
+  pub lends : Lent (state n m h) n requests size high
+
+pub ready : {r : Reading} (n m : ℕ) (h : Head) (requests : List ℕ) (size : ℕ) → r ≡ cycle (state n m h) n requests size
+    → r .verdict .number ≡ 0 → Ready n m h requests size (r .highest)
+ready n m h requests size e z =
+    let l = lent (state n m h) n requests size e z in record { allows = allowed n m h (l .before); lends = l }
 
 -- questions that pass
 pub width-passes : (n : ℕ) → 1 ≤ n → n ≤ maxWidth → (width n) .number ≡ 0

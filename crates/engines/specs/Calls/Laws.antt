@@ -39,7 +39,7 @@ cycle-served s requests former z =
     record {
       some = omega (arith, r .allows .picked);
       head = r .allows .station;
-      asked = r .asked;
+      asked = r .lends .asked;
       answers = ap (λ (o : Answers.Outcome). o .answer) is;
       granted = ap (λ (o : Answers.Outcome). o .written) is;
     }

@@ -22,10 +22,10 @@ use Rattle.arbiter.specs.Places.{ones, first, highest}
 use Rattle.arbiter.specs.Places.Laws.{first-none, first-some}
 use Rattle.arbiter.specs.Questions as Questions
 use Rattle.arbiter.specs.Questions.{_then_}
-use Rattle.arbiter.specs.Questions.Laws.{then-served, width-served, token-served, length-served, read-served}
+use Rattle.arbiter.specs.Questions.Laws.{then-served, width-served, token-served, Lent, lent}
 use Rattle.arbiter.specs.Decisions.{requested}
 use Rattle.arbiter.specs.Decisions.Laws.{none-granted}
-use Rattle.token_bus.specs.Calls.{state, decision, reading}
+use Rattle.token_bus.specs.Calls.{state, decision}
 
 -- what is known once 1, 3 and 4 have passed
 pub record Allowed (n : ℕ) (h : Head) : Type 0 where
@@ -43,27 +43,16 @@ allowed n m h z =
       station = omega (arith, is, t .1);
     }
 
--- what is known of a cycle once all its questions have passed: r is what they say up to 8, and `high` the highest byte in hand
-pub record Ready (n : ℕ) (h : Head) (requests : List ℕ) (size high : ℕ) : Type 0 where
+-- what is known of a cycle once all its questions have passed: r is what they say up to 8
+pub record Ready (n m : ℕ) (h : Head) (requests : List ℕ) (size high : ℕ) : Type 0 where
   pub allows : Allowed n h
-  pub asked : length requests ≡ n
-  pub room : size ≡ n
-  pub heard : high ≡ highest requests
+  pub lends : Lent (state n m h) n requests size high
 
-pub ready : {r : Reading} (n m : ℕ) (h : Head) (requests : List ℕ) (size byte : ℕ) → r ≡ reading n m h requests size
-    → (r .verdict then Questions.acknowledge byte) .number ≡ 0 → Ready n h requests size (r .highest)
+pub ready : {r : Reading} (n m : ℕ) (h : Head) (requests : List ℕ) (size byte : ℕ) → r ≡ Questions.cycle (state n m h) n requests size
+    → (r .verdict then Questions.acknowledge byte) .number ≡ 0 → Ready n m h requests size (r .highest)
 ready {r} n m h requests size byte e z =
-    let five = state n m h then Questions.readLength n (length requests) in
-    let d = then-served (r .verdict) (Questions.acknowledge byte) z in
-    let c = read-served (five then Questions.writeLength n size) requests e (d .0) in
-    let b = then-served five (Questions.writeLength n size) (c .before) in
-    let a = then-served (state n m h) (Questions.readLength n (length requests)) (b .0) in
-    record {
-      allows = allowed n m h (a .0);
-      asked = length-served 4 n (length requests) (a .1);
-      room = length-served 5 n size (b .1);
-      heard = c .heard;
-    }
+    let l = lent (state n m h) n requests size e (then-served (r .verdict) (Questions.acknowledge byte) z .0) in
+    record { allows = allowed n m h (l .before); lends = l }
 
 -- a list of one at most is its first
 first-only : (ps : List ℕ) (w : ℕ) → length ps ≤ 1 → first ps ≡ At w → ps ≡ w ∷ []

@@ -1,15 +1,12 @@
 -- `cycle` meets its contract: the questions in their order.
 -- Assumes nothing.
-use mathlib.Core.Path.{ap, _∙_}
+use mathlib.Core.Path.{refl, ap, _∙_}
 use borrow.Author.Needs.{needs}
 use Rattle.arbiter.specs.declared.question.Verdict.{Verdict}
 use Rattle.arbiter.specs.Questions as Questions
 use Rattle.arbiter.specs.Questions.Laws.{chained}
 use Rattle.arbiter.proofs.question.cycle.Statement.{statement}
 use Rattle.arbiter.proofs.question.cycle.Tie as tie
-
-state-requires : tie.Need-state-requires
-state-requires c κs = search needs
 
 read-length-requires : tie.Need-read-length-requires
 read-length-requires c κs = search needs
@@ -31,15 +28,14 @@ returns c =
     let t = c .before in
     let w = t .before .before in
     let r = w .before in
-    let a = r .before .before .before .args in
-    let unread = chained (t .then2 .ensures) (chained (t .before .then .ensures) (r .before .state .ensures) (r .read-length .ensures)) (w .write-length .ensures) in
+    let a = r .before .before .args in
+    let unread = chained (t .then2 .ensures) (chained (t .before .then .ensures) refl (r .read-length .ensures)) (w .write-length .ensures) in
     c .read .ensures ∙ ap (λ (v : Verdict). Questions.read v (a .requests .now)) unread
 
 pub cycle-spec : {M : Type 1} → statement M
 cycle-spec =
     tie.close
     (tie.spec
-    state-requires
     read-length-requires
     write-length-requires
     then-requires

@@ -17,6 +17,9 @@ use Rattle.token_bus.specs.Calls.Laws.{Ready, ready}
 use Rattle.token_bus.proofs.TokenBus.cycle.Statement.{statement}
 use Rattle.token_bus.proofs.TokenBus.cycle.Tie as tie
 
+state-requires : tie.Need-state-requires
+state-requires c κs = search needs
+
 cycle-requires : tie.Need-cycle-requires
 cycle-requires c κs = search needs
 
@@ -33,19 +36,19 @@ returns : tie.Need-returns
 returns c =
     let t = c .before .before .before in
     let q = t .before .before .before in
-    unwritten _ _ _ (chained (t .then .ensures) (told (q .cycle .ensures)) (t .before .acknowledge .ensures)) (c .before .if1 .taken) (c .refused .ensures)
+    unwritten _ _ _ (chained (t .then .ensures) (told (rw (q .before .state .ensures) at (q .cycle .ensures))) (t .before .acknowledge .ensures)) (c .before .if1 .taken) (c .refused .ensures)
 
 -- what is known once the questions have passed
 asked : (c : tie.Else1)
     → let q = c .before .before .before .before .before in
-    let a = q .before .before .before .before .args in
-    Ready (a .self .0 .width) (a .self .0 .head) (a .requests .now) (length (a .grants .now)) (q .cycle .result .highest)
+    let a = q .before .before .before .before .before .args in
+    Ready (a .self .0 .width) (a .self .0 .picks) (a .self .0 .head) (a .requests .now) (length (a .grants .now)) (q .cycle .result .highest)
 asked c =
     let t = c .before .before in
     let q = t .before .before .before in
-    let a = q .before .before .before .before .args in
+    let a = q .before .before .before .before .before .args in
     let same = t .then .ensures ∙ ap (λ (v : Verdict). q .cycle .result .verdict then v) (t .before .acknowledge .ensures) in
-    ready _ (a .self .0 .picks) _ _ _ (a .acknowledge) (q .cycle .ensures) (ap (λ (v : Verdict). v .number) (sym same) ∙ c .if1 .left)
+    ready _ _ _ _ _ (a .acknowledge) (rw (q .before .state .ensures) at (q .cycle .ensures)) (ap (λ (v : Verdict). v .number) (sym same) ∙ c .if1 .left)
 
 clear-requires : tie.Need-clear-requires
 clear-requires c κs = search needs
@@ -57,7 +60,7 @@ grant-requires : tie.Need-grant-requires
 grant-requires c κs =
     let k = c .before .before .before .before in
     let e = asked (k .before .before) in
-    (rw (c .before .first-station .ensures) (e .allows .station), (e .asked, (e .heard, k .clear .ensures ∙ rw (e .room))))
+    (rw (c .before .first-station .ensures) (e .allows .station), (e .lends .asked, (e .lends .heard, k .clear .ensures ∙ rw (e .lends .room))))
 
 served-requires : tie.Need-served-requires
 served-requires c κs = search needs
@@ -72,10 +75,10 @@ returns-2 c =
     let e = f .before .before .before .before .before in
     let t = e .before .before in
     let q = t .before .before .before in
-    let a = q .before .before .before .before .args in
+    let a = q .before .before .before .before .before .args in
     let s = a .self .0 in
     let asks = asking s (a .requests .now) in
-    written _ _ (chained (t .then .ensures) (told (q .cycle .ensures)) (t .before .acknowledge .ensures)) (e .if1 .left)
+    written _ _ (chained (t .then .ensures) (told (rw (q .before .state .ensures) at (q .cycle .ensures))) (t .before .acknowledge .ensures)) (e .if1 .left)
     (c .served .ensures
     ∙ ap (λ (d : Decision). decided s d)
     (w .grant .ensures .0 ∙ ap (λ (t : ℕ). decision (s .width) t (acknowledged (a .acknowledge)) asks) (f .first-station .ensures)))
@@ -85,6 +88,7 @@ pub cycle-spec : {M : Type 1} → statement M
 cycle-spec =
     tie.close
     (tie.spec
+    state-requires
     cycle-requires
     acknowledge-requires
     then-requires
