@@ -100,11 +100,11 @@ marked n m h asks w head =
     (sym (Laws.granted-outside n m h asks w (omega arith) out)))
 
 -- so each is a cycle by the rule
-read-ruled : (s : State) (h : Head) (c : Made By) → Right s h c → Ruled (s .width) h (read s c)
+pub read-ruled : (s : State) (h : Head) (c : Made By) → Right s h c → Ruled (s .width) h (read s c)
 read-ruled s h c r = record {
-  some = r .some;
-  head = r .head;
-  granted = λ w. rw (r .granted) (marked (s .width) (s .picks) h (λ v. asks v c) w (r .head));
+  some = r .allows .picked;
+  head = r .allows .station;
+  granted = λ w. rw (r .granted) (marked (s .width) (s .picks) h (λ v. asks v c) w (r .allows .station));
 }
 
 -- and they follow one another by the rule
@@ -114,12 +114,13 @@ read-follows s h (c ∷ cs) chain = (read-ruled s h c (chain .0), read-follows s
 
 -- a call that is served by the bus's rule
 pub record BusRuled (s : State) (requests : List ℕ) (byte : ℕ) (o : Outcome) : Type 0 where
+  pub passed : (Bus.state (s .width) (s .picks) (s .head)) .number ≡ 0
   pub token : Bus.token s < s .width
   pub asked : length requests ≡ s .width
   pub answers : o .answer ≡ Bus.answer s requests byte
   pub grants : o .written ≡ Bus.granting s requests
 
-bus-served : (byte : ℕ) (s : State) (requests former : List ℕ) → let o = busCycle byte s requests former in o .answer .number ≡ 0
+pub bus-served : (byte : ℕ) (s : State) (requests former : List ℕ) → let o = busCycle byte s requests former in o .answer .number ≡ 0
     → BusRuled s requests byte o
 bus-served byte s requests former z =
     let v = Bus.questions (s .width) (s .picks) (s .head) requests (length former) byte in
@@ -127,6 +128,7 @@ bus-served byte s requests former z =
     let r = BusLaws.ready (s .width) (s .picks) (s .head) requests (length former) byte refl p in
     let is = writes-is v s (Bus.answer s requests byte) (Bus.granting s requests) former p in
     record {
+      passed = r .lends .before;
       token = r .allows .station;
       asked = r .lends .asked;
       answers = ap (λ (o : Outcome). o .answer) is;

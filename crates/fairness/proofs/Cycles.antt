@@ -1,18 +1,20 @@
 -- The wait rule over cycles of the round-robin rule, from the rule's laws alone.
 -- Assumes nothing.
-use Prim.Native.Nat.{ℕ, _+_, _≤_, _<_}
+use Prim.Native.Nat.{ℕ, suc, _+_, _%_, _≤_, _<_}
 use mathlib.Core.Path.{_≡_, refl, sym, ap, _∙_}
 use mathlib.Core.Bool.{Bool, true, false, _&&_, _||_, true≢false}
 use mathlib.Core.List.{List, [], _∷_, _++_}
 use native.Mathlib.Omega.{arith}
 use lib.Dec.{ltb, eqb}
-use lib.ListN.{length}
+use lib.ListN.{length, length-append}
 use borrow.Author.Tests.{ltb-true, ltb-false}
 use Rattle.rules.specs.declared.Head.{Head}
+use Rattle.rules.specs.declared.Head.the-variants.{At}
 use Rattle.rules.specs.Lists.{bit, filter, count, member, before}
 use Rattle.rules.specs.Lists.Laws as Lists
 use Rattle.rules.specs.RoundRobin.{start, order, granted, next}
 use Rattle.rules.specs.RoundRobin.Laws as Laws
+use Rattle.rules.specs.Bus.Laws as BusLaws
 use Rattle.fairness.specs.Cycles.{Cycle, nextHead, Chain, Follows, Waits, total, WaitingCycles}
 
 -- some cycles of a chain, whatever stands before them and after them
@@ -29,23 +31,33 @@ both-false : (a b : Bool) → (a || b) ≡ false → (a ≡ false) × (b ≡ fal
 both-false true b e = absurd (true≢false e)
 both-false false b e = (refl, e)
 
+-- where all pass a test, all at the front do
+pub all-front : (p : ℕ → Bool) (front back : List ℕ) → count p (front ++ back) ≡ length (front ++ back) → count p front ≡ length front
+all-front p front back all =
+    omega (
+      arith,
+      Lists.count-append p front back,
+      length-append front back,
+      fewer front,
+      fewer back,
+    )
+  where
+    fewer : (xs : List ℕ) → count p xs ≤ length xs
+    fewer [] = omega arith
+    fewer (x ∷ xs) = omega (arith, Lists.bit-le (p x), fewer xs)
+
 -- an order cut at the one granted last: w asks, is in the order and is not granted, so it stands behind the cut
 behind : (asks p : ℕ → Bool) (w : ℕ) (front : List ℕ) (final : ℕ) (back tail : List ℕ) → asks w ≡ true
     → member w (filter asks front ++ (final ∷ [])) ≡ false
     → member w (front ++ final ∷ back) ≡ true
-    → count p (filter asks front ++ (final ∷ [])) + count p (before w (back ++ tail)) ≤ count p (before w (front ++ final ∷ back))
+    → count p (front ++ (final ∷ [])) + count p (before w (back ++ tail)) ≡ count p (before w (front ++ final ∷ back))
 behind asks p w front final back tail t out here =
     let parts = both-false (member w (filter asks front)) (eqb w final || false) (sym (Lists.member-append w (filter asks front) (final ∷ [])) ∙ out) in
     let other : eqb w final ≡ false = both-false (eqb w final) false (parts .1) .0 in
     let ahead : member w front ≡ false = sym (Lists.filter-keeps asks w front t) ∙ parts .0 in
     let later : member w back ≡ true = rw (Lists.member-append w front (final ∷ back), ahead, other) at here in
     rw (Lists.before-right w front (final ∷ back) ahead, Lists.before-left w back tail later, other)
-    (omega (
-      arith,
-      Lists.count-append p (filter asks front) (final ∷ []),
-      Lists.count-append p front (final ∷ before w back),
-      Lists.count-filter-le p asks front,
-    ))
+    (omega (arith, Lists.count-append p front (final ∷ []), Lists.count-append p front (final ∷ before w back)))
 
 -- a station that asks and is not granted: the cycle grants m others
 module _ (n m : ℕ) (h : Head) (asks : ℕ → Bool) (w : ℕ) (some : 0 < m) (head : start h < n) (station : w < n) (asking : asks w ≡ true)
@@ -61,15 +73,52 @@ module _ (n m : ℕ) (h : Head) (asks : ℕ → Bool) (w : ℕ) (some : 0 < m) (
         Laws.granted-length n m h asks,
       )
 
-  -- whoever is counted: those granted, and those before w in the next order, were before w in this one
-  nearer : (p : ℕ → Bool)
-      → count p (granted n m h asks) + count p (before w (order n (next n m h asks))) ≤ count p (before w (order n h))
-  nearer p =
-      let c = Laws.cut n m h asks head (omega (arith, full)) in
-      rw (c .granted-is, c .order-next, c .order-is)
+  -- the order, cut at the one granted last
+  parts : Laws.Cut n m h asks
+  parts = Laws.cut n m h asks head (omega (arith, full))
+
+  -- whoever is counted: those up to the one granted last, and those before w in the next order, are those before w in this one
+  passing : (p : ℕ → Bool)
+      → count p (parts .front ++ (parts .final ∷ [])) + count p (before w (order n (next n m h asks))) ≡ count p (before w (order n h))
+  passing p =
+      let c = parts in
+      rw (c .order-next, c .order-is)
       (behind asks p w (c .front) (c .final) (c .back) (c .front ++ (c .final ∷ [])) asking
       (rw (c .granted-is) at passed)
       (rw (c .order-is) at (Laws.order-member n h w (omega arith) station)))
+
+  -- so those granted, and those before w in the next order, were before w in this one
+  nearer : (p : ℕ → Bool)
+      → count p (granted n m h asks) + count p (before w (order n (next n m h asks))) ≤ count p (before w (order n h))
+  nearer p =
+      let c = parts in
+      rw (c .granted-is)
+      (omega (
+        arith,
+        passing p,
+        Lists.count-append p (filter asks (c .front)) (c .final ∷ []),
+        Lists.count-append p (c .front) (c .final ∷ []),
+        Lists.count-filter-le p asks (c .front),
+      ))
+
+  -- where all ask, m that stood before w do so no more
+  pub all-nearer : count asks (order n h) ≡ n → m + length (before w (order n (next n m h asks))) ≡ length (before w (order n h))
+  all-nearer all =
+      let c = parts in
+      let front = all-front asks (c .front) (c .final ∷ c .back) (rw (c .order-is) at (all ∙ sym (Laws.order-length n h (omega arith)))) in
+      omega (
+        arith,
+        full,
+        ap length (c .granted-is),
+        length-append (filter asks (c .front)) (c .final ∷ []),
+        Lists.length-filter asks (c .front),
+        front,
+        passing (λ _. true),
+        Lists.count-all (c .front ++ (c .final ∷ [])),
+        length-append (c .front) (c .final ∷ []),
+        Lists.count-all (before w (order n (next n m h asks))),
+        Lists.count-all (before w (order n h)),
+      )
 
 -- all that the cycles grant, one cycle after the other
 abbrev grantees : ℕ → Head → List Cycle → List ℕ
@@ -149,3 +198,12 @@ waiting-cycles n h w (c ∷ cs) station follow waits =
             at-most-once n h v head,
           );
     }
+
+-- the bus: with the token one on, one station fewer stands before w
+pub bus-nearer : (n t w : ℕ) → t < n → w < n → eqb w t ≡ false
+    → suc (length (before w (order n (At ((t + 1) % n))))) ≡ length (before w (order n (At t)))
+bus-nearer n t w token station other =
+    let head = BusLaws.token-head n t token in
+    let r = rw (Laws.start-at t) at (Laws.order-turned n (At t) head) in
+    let later : member w (r .0) ≡ true = rw (r .1, other) at (Laws.order-member n (At t) w (omega arith) station) in
+    rw (r .1, r .2, Lists.before-left w (r .0) (t ∷ []) later, other)

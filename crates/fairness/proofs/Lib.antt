@@ -1,3 +1,4 @@
 pub mod Cycles
 pub mod Calls
+pub mod Sharpness
 pub mod Waiting

@@ -1,11 +1,11 @@
 -- The wait rule over every list of calls. By the three engines: the served ones are cycles of the round-robin rule, for which it
 -- is proved in Cycles. On the bus: from the laws of the bus's rule.
 -- Assumes nothing.
-use Prim.Native.Nat.{ℕ, zero, suc, _+_, _*_, _%_, _≤_, _<_}
+use Prim.Native.Nat.{ℕ, zero, suc, _+_, _-_, _*_, _%_, _≤_, _<_}
 use mathlib.Core.Path.{_≡_, refl, sym, ap, _∙_}
 use mathlib.Core.Bool.{true, false, _&&_, true≢false}
 use mathlib.Core.List.{List, [], _∷_, _++_, map}
-use mathlib.Core.Logic.{_⊎_, inl, inr}
+use mathlib.Core.Logic.{inl, inr}
 use native.Mathlib.Omega.{arith}
 use native.Mathlib.Nat.{le-div-iff-mul-le}
 use lib.Dec.{ltb, eqb}
@@ -13,17 +13,24 @@ use lib.ListN.{length, getD, take, drop, length-take, take-append-drop, List·ge
 use borrow.Author.Tests.{ltb-true, ltb-false, eqb-true, eq-eqb}
 use Rattle.rules.specs.declared.Head.{Head}
 use Rattle.rules.specs.declared.Head.the-variants.{At}
-use Rattle.rules.specs.Lists.{bit, count, member, before}
+use Rattle.rules.specs.Lists.{bit, count, before}
 use Rattle.rules.specs.Lists.Laws as Lists
 use Rattle.rules.specs.RoundRobin.{start, order}
 use Rattle.rules.specs.RoundRobin.Laws as Laws
 use Rattle.rules.specs.Bus as Bus
 use Rattle.rules.specs.Bus.Laws as BusLaws
 use Rattle.arbiter.specs.declared.State.{State}
+use Rattle.arbiter.specs.Questions.Laws.{Allowed}
+use Rattle.arbiter.specs.Answers.Laws.{opened-passed, passed-opened}
+use Rattle.engines.specs.declared.Engine.{Engine}
+use Rattle.engines.specs.declared.Engine.the-variants.{Scan}
+use Rattle.engines.specs.Calls.Laws.{engine-opens, opens-allowed}
+use Rattle.token_bus.specs.Calls.Laws as BusCalls
 use Rattle.fairness.specs.Cycles.{Chain, Waits, total}
-use Rattle.fairness.specs.Waiting.{By, Call, Made, cycle, run, served, asks, granted, Each, ceiling, Bounded, BoundedWaiting, AsksUntilGranted, GrantedInTime, acknowledged, BusBoundedWaiting}
-use Rattle.fairness.proofs.Cycles.{resumed, waiting-cycles}
+use Rattle.fairness.specs.Waiting.{By, Made, cycle, busCycle, run, served, asks, granted, Each, OneLeast, Serves, UnservedRefused, Wait, ceiling, BoundedWaiting, NotTwice, AsksUntilGranted, GrantedWithin, GrantedInTime, BusServes, BusUnservedRefused, acknowledged, GrantedAcknowledged, BusBoundedWaiting}
+use Rattle.fairness.proofs.Cycles.{resumed, waiting-cycles, bus-nearer}
 use Rattle.fairness.proofs.Calls.{Right, read, headAfter, cycles, read-follows, BusRight, nextToken, bus-cycles}
+use Rattle.fairness.proofs.Sharpness.{longest-wait, no-sooner, other-once, bus-no-sooner}
 
 -- whoever asks is a station: its byte is one of the n
 asking-station : (bytes : List ℕ) (n w : ℕ) → length bytes ≡ n → eqb (getD bytes w 0) 1 ≡ true → w < n
@@ -61,24 +68,79 @@ module _ (s : State) where
 below-ceiling : (n m k : ℕ) → 0 < m → k * m < n → k < ceiling n m
 below-ceiling n m k h l = le-div-iff-mul-le h .1 (omega arith)
 
+-- what is promised of a wait
+record Bounded (n m : ℕ) (waiting : List (Made By)) : Type 0 where
+  pub short : length waiting < ceiling n m
+  pub once : (v : ℕ) → count (granted v) waiting < 2
+
+-- some served calls that follow one another
+bounded : (s : State) (w : ℕ) (h : Head) (c : Made By) (cs : List (Made By)) → Chain (Right s) (headAfter s) h (c ∷ cs) → Each (asks w) (c ∷ cs)
+    → count (granted w) (c ∷ cs) ≡ 0 → Bounded (s .width) (s .picks) (c ∷ cs)
+bounded s w h c cs chain each ungranted =
+    let r = chain .0 in
+    let station = asking-station (c .call .requests) (s .width) w (r .asked) (each .0) in
+    let b =
+    waiting-cycles (s .width) h w (map (read s) (c ∷ cs)) station (read-follows s h (c ∷ cs) chain)
+    (read-waits s w (c ∷ cs) each ungranted) in
+    record {
+      short = below-ceiling (s .width) (s .picks) (length (c ∷ cs)) (r .allows .picked) (omega (arith, b .short, read-total s (c ∷ cs)));
+      once = λ v. omega (arith, b .once v, read-grants s v (c ∷ cs));
+    }
+
+-- so every wait is bounded
+wait-bounded : (s : State) (w : ℕ) (c : Made By) (cs : List (Made By)) → Wait s w (c ∷ cs) → Bounded (s .width) (s .picks) (c ∷ cs)
+wait-bounded s w c cs wait =
+    let r = resumed (Right s) (headAfter s) (wait .past) (c ∷ cs) (wait .rest) (s .head) (rw (wait .are) at (cycles s (wait .calls))) in
+    bounded s w (r .0) c cs (r .1) (wait .asking) (wait .ungranted)
+
+-- a state that an engine serves
+module _ (s : State) (e : Engine) (opens : Serves e s) where
+  allows : Allowed (s .width) (s .picks) (s .head)
+  allows = opens-allowed e (s .width) (s .picks) (s .head) opens
+
+  short : (w : ℕ) (waiting : List (Made By)) → Wait s w waiting → length waiting < ceiling (s .width) (s .picks)
+  short w [] wait = below-ceiling (s .width) (s .picks) 0 (allows .picked) (omega (arith, allows .some))
+  short w (c ∷ cs) wait = wait-bounded s w c cs wait .short
+
+  -- fewer cycles than N/m rounded up make fewer than N picks
+  within-ceiling : (j : ℕ) → j < ceiling (s .width) (s .picks) → j * s .picks < s .width
+  within-ceiling j l =
+      let some = allows .picked in
+      omega (arith, some, le-div-iff-mul-le {x = suc j} some .0 l)
+
+  -- a wait of one cycle less
+  shorter : (limit : ℕ) → ((w : ℕ) (waiting : List (Made By)) → Wait s w waiting → length waiting < limit)
+      → ceiling (s .width) (s .picks) ≤ limit
+  shorter limit claim =
+      let j = ceiling (s .width) (s .picks) - 1 in
+      let some = below-ceiling (s .width) (s .picks) 0 (allows .picked) (omega (arith, allows .some)) in
+      omega (arith, longest-wait s e opens j limit (within-ceiling j (omega arith)) claim)
+
 pub bounded-waiting : BoundedWaiting
-bounded-waiting s calls w past waiting rest are taken asking none =
-    let r = resumed (Right s) (headAfter s) past waiting rest (s .head) (rw are at (cycles s calls)) in
-    bounded waiting (r .0) (r .1) taken asking none
+bounded-waiting s e opens = record {
+  holds = λ w waiting wait. omega (arith, short s e opens w waiting wait);
+  least = λ limit claim. omega (arith, shorter s e opens limit (λ w waiting wait. omega (arith, claim w waiting wait)));
+}
+
+pub not-twice : NotTwice
+not-twice = record {
+  holds = λ s w waiting wait v. omega (arith, once s w waiting wait v);
+  least = λ times claim. omega (arith, other-once times (λ s w waiting wait v. omega (arith, claim s w waiting wait v)));
+}
   where
-    bounded : (cs : List (Made By)) (h : Head) → Chain (Right s) (headAfter s) h cs → 0 < length cs → Each (asks w) cs
-        → count (granted w) cs ≡ 0 → Bounded (s .width) (s .picks) cs
-    bounded [] h chain some each ungranted = absurd (omega arith)
-    bounded (c ∷ cs) h chain some each ungranted =
-        let r = chain .0 in
-        let station = asking-station (c .call .requests) (s .width) w (r .asked) (each .0) in
-        let b =
-        waiting-cycles (s .width) h w (map (read s) (c ∷ cs)) station (read-follows s h (c ∷ cs) chain)
-        (read-waits s w (c ∷ cs) each ungranted) in
-        record {
-          short = below-ceiling (s .width) (s .picks) (length (c ∷ cs)) (r .some) (omega (arith, b .short, read-total s (c ∷ cs)));
-          once = λ v. omega (arith, b .once v, read-grants s v (c ∷ cs));
-        }
+    once : (s : State) (w : ℕ) (waiting : List (Made By)) → Wait s w waiting → (v : ℕ) → count (granted v) waiting < 2
+    once s w [] wait v = omega arith
+    once s w (c ∷ cs) wait v = wait-bounded s w c cs wait .once v
+
+pub one-least : OneLeast
+one-least claim j k a b = omega (arith, a .least k (b .holds), b .least j (a .holds))
+
+pub unserved-refused : UnservedRefused
+unserved-refused s calls none = only (served (run cycle s calls)) (cycles s calls)
+  where
+    only : (cs : List (Made By)) → Chain (Right s) (headAfter s) (s .head) cs → cs ≡ []
+    only [] chain = refl
+    only (c ∷ cs) chain = absurd (none Scan (engine-opens s (chain .0 .allows)))
 
 -- a station that asks until it is granted, and is not granted, asks in every cycle
 asks-each : (w k : ℕ) (cs : List (Made By)) → AsksUntilGranted w cs → count (granted w) (take k cs) ≡ 0 → Each (asks w) (take k cs)
@@ -89,36 +151,37 @@ asks-each w (suc k) (c ∷ cs) until none =
     (λ t. absurd (omega (arith, ap bit t)))
     (λ f. (until .0, asks-each w k cs (until .1 f) (omega arith)))
 
--- it is granted within any number of cycles that is N/m rounded up or more, unless there are fewer
-module _ (s : State) (calls : List (Call By)) (w : ℕ) (past : List (Made By)) (first : Made By) (more : List (Made By))
-    (are : served (run cycle s calls) ≡ past ++ (first ∷ more)) (until : AsksUntilGranted w (first ∷ more)) where
-  in-time : (limit : ℕ) → ceiling (s .width) (s .picks) ≤ limit
-      → (0 < count (granted w) (take limit (first ∷ more))) ⊎ (length (first ∷ more) < limit)
-  in-time limit enough =
+-- it is granted within N/m rounded up of them or more, unless there are fewer
+module _ (s : State) (e : Engine) (opens : Serves e s) where
+  in-time : (limit : ℕ) → ceiling (s .width) (s .picks) ≤ limit → GrantedWithin s limit
+  in-time limit enough calls w past first more are until =
       let within = take limit (first ∷ more) in
-      let rest = drop limit (first ∷ more) in
-      let r = resumed (Right s) (headAfter s) past (first ∷ []) more (s .head) (rw are at (cycles s calls)) .1 .0 in
-      let some = below-ceiling (s .width) (s .picks) 0 (r .some) (omega (arith, r .head)) in
-      let size = length-take limit (first ∷ more) in
       Lists.split (ltb 0 (count (granted w) within))
       (λ t. inl (ltb-true 0 _ t))
       (λ f.
       let none : count (granted w) within ≡ 0 = omega (arith, ltb-false 0 (count (granted w) within) f) in
-      let parts : served (run cycle s calls) ≡ past ++ (within ++ rest) = are ∙ ap (_++_ past) (sym (take-append-drop limit (first ∷ more))) in
-      let b = bounded-waiting s calls w past within rest parts (omega (arith, size, some)) (asks-each w limit (first ∷ more) until none) none in
-      inr (omega (arith, b .short, size)))
+      let wait : Wait s w within =
+      record {
+        calls = calls;
+        past = past;
+        rest = drop limit (first ∷ more);
+        are = are ∙ ap (_++_ past) (sym (take-append-drop limit (first ∷ more)));
+        asking = asks-each w limit (first ∷ more) until none;
+        ungranted = none;
+      } in
+      inr (omega (arith, short s e opens w within wait, length-take limit (first ∷ more))))
+
+  not-sooner : (limit : ℕ) → GrantedWithin s limit → ceiling (s .width) (s .picks) ≤ limit
+  not-sooner limit claim =
+      Lists.split (ltb limit (ceiling (s .width) (s .picks)))
+      (λ t. absurd (no-sooner s e opens limit (within-ceiling s e opens limit (ltb-true limit _ t)) claim))
+      (λ f. omega (arith, ltb-false limit (ceiling (s .width) (s .picks)) f))
 
 pub granted-in-time : GrantedInTime
-granted-in-time s calls w past first more are until = in-time s calls w past first more are until _ (omega arith)
-
--- with the token one on, one station fewer stands before w
-bus-nearer : (n t w : ℕ) → t < n → w < n → eqb w t ≡ false
-    → suc (length (before w (order n (At ((t + 1) % n))))) ≡ length (before w (order n (At t)))
-bus-nearer n t w token station other =
-    let head = BusLaws.token-head n t token in
-    let r = rw (Laws.start-at t) at (Laws.order-turned n (At t) head) in
-    let later : member w (r .0) ≡ true = rw (r .1, other) at (Laws.order-member n (At t) w (omega arith) station) in
-    rw (r .1, r .2, Lists.before-left w (r .0) (t ∷ []) later, other)
+granted-in-time s e opens = record {
+  holds = in-time s e opens _ (omega arith);
+  least = λ limit claim. omega (arith, not-sooner s e opens limit claim);
+}
 
 -- a list of bus calls from the state s
 module _ (s : State) (w : ℕ) where
@@ -173,18 +236,41 @@ module _ (s : State) (w : ℕ) where
           absurd (true≢false (sym (eq-eqb _ 1 first) ∙ g)))
           (λ i. i)
 
+-- a state that the bus serves
+module _ (s : State) (opens : BusServes s) where
+  bus-granted : (exactly : ℕ) → s .width ≤ exactly → GrantedAcknowledged s exactly
+  unfolding distance
+  bus-granted exactly enough calls w past asking rest are each counted =
+      let r = resumed (BusRight s) (nextToken s) past asking rest (s .head) (rw are at (bus-cycles s calls)) in
+      one asking (r .0) (r .1) each (omega (arith, counted))
+    where
+      one : (cs : List (Made ℕ)) (h : Head) → Chain (BusRight s) (nextToken s) h cs → Each (asks w) cs
+          → s .width ≤ count acknowledged cs → 0 < count (λ c. acknowledged c && granted w c) cs
+      one [] h chain each all =
+          let a = BusCalls.allowed (s .width) (s .picks) (s .head) (opened-passed _ (s .width) (s .picks) (s .head) opens) in
+          absurd (omega (arith, a .station))
+      one (c ∷ cs) h chain each all =
+          let r = chain .0 in
+          let station = asking-station (c .call .requests) (s .width) w (r .asked) (each .0) in
+          let head = BusLaws.token-head (s .width) (start h) (r .token) in
+          acknowledged-grant s w (c ∷ cs) h chain each
+          (omega (arith, Laws.before-length (s .width) (At (start h)) w (omega arith) station))
+
+  bus-least : (exactly : ℕ) → GrantedAcknowledged s exactly → s .width ≤ exactly
+  bus-least exactly claim =
+      Lists.split (ltb exactly (s .width))
+      (λ t. absurd (bus-no-sooner s opens exactly (ltb-true exactly (s .width) t) claim))
+      (λ f. omega (arith, ltb-false exactly (s .width) f))
+
 pub bus-bounded-waiting : BusBoundedWaiting
-unfolding distance
-bus-bounded-waiting s calls w past asking rest are taken asks-all exactly =
-    let r = resumed (BusRight s) (nextToken s) past asking rest (s .head) (rw are at (bus-cycles s calls)) in
-    one asking (r .0) (r .1) taken asks-all (omega (arith, exactly))
+bus-bounded-waiting s opens = record {
+  holds = bus-granted s opens _ (omega arith);
+  least = λ exactly claim. omega (arith, bus-least s opens exactly claim);
+}
+
+pub bus-unserved-refused : BusUnservedRefused
+bus-unserved-refused s calls none = only (served (run busCycle s calls)) (bus-cycles s calls)
   where
-    one : (cs : List (Made ℕ)) (h : Head) → Chain (BusRight s) (nextToken s) h cs → 0 < length cs → Each (asks w) cs
-        → s .width ≤ count acknowledged cs → 0 < count (λ c. acknowledged c && granted w c) cs
-    one [] h chain some each all = absurd (omega arith)
-    one (c ∷ cs) h chain some each all =
-        let r = chain .0 in
-        let station = asking-station (c .call .requests) (s .width) w (r .asked) (each .0) in
-        let head = BusLaws.token-head (s .width) (start h) (r .token) in
-        acknowledged-grant s w (c ∷ cs) h chain each
-        (omega (arith, Laws.before-length (s .width) (At (start h)) w (omega arith) station))
+    only : (cs : List (Made ℕ)) → Chain (BusRight s) (nextToken s) (s .head) cs → cs ≡ []
+    only [] chain = refl
+    only (c ∷ cs) chain = absurd (none (passed-opened _ (s .width) (s .picks) (s .head) (chain .0 .passed)))

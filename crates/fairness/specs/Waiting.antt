@@ -79,52 +79,88 @@ abbrev pub Each : {A : Type 0} → (A → Bool) → List A → Type 0
 Each p [] = Unit {0}
 Each p (c ∷ cs) = (p c ≡ true) × Each p cs
 
+-- k is the least number of which the claim is true
+pub record Least (claim : ℕ → Type 0) (k : ℕ) : Type 0 where
+  pub holds : claim k
+  pub least : (j : ℕ) → claim j → k ≤ j
+
+-- so there is one such number at most
+abbrev pub OneLeast : Type 1
+OneLeast = (claim : ℕ → Type 0) (j k : ℕ) → Least claim j → Least claim k → j ≡ k
+
+-- an engine serves a state: it opens with it
+abbrev pub Serves : Engine → State → Type 0
+Serves e s = (Engines.opening e (s .width) (s .picks) (s .head)) .number ≡ 0
+
+-- "A state that no engine serves gives only refusals, and nothing is then counted"
+abbrev pub UnservedRefused : Type 0
+UnservedRefused = (s : State) (calls : List (Call By)) → ((e : Engine) → Serves e s → ⊥) → served (run cycle s calls) ≡ []
+
+-- A wait of station w from the state s: "any served cycles that follow one another, in all of which a station asks and in none of
+-- which it is granted", whatever was served before them and after them
+pub record Wait (s : State) (w : ℕ) (waiting : List (Made By)) : Type 0 where
+  pub calls : List (Call By)
+  pub past : List (Made By)
+  pub rest : List (Made By)
+  pub are : served (run cycle s calls) ≡ past ++ (waiting ++ rest)
+  pub asking : Each (asks w) waiting
+  pub ungranted : count (granted w) waiting ≡ 0
+
 -- 01's "N/m rounded up"
 abbrev pub ceiling : ℕ → ℕ → ℕ
 ceiling n m = (n + (m - 1)) / m
 
--- what is promised of a wait: "They are fewer than N/m rounded up, and no other station is granted twice in them"
-pub record Bounded (n m : ℕ) (waiting : List (Made By)) : Type 0 where
-  pub short : length waiting < ceiling n m
-  pub once : (v : ℕ) → count (granted v) waiting ≤ 1
-
--- Scan, tree and thermometer arbiter. "Take any served cycles that follow one another, in all of which a station asks and in none of
--- which it is granted": some cycles, whatever was served before them and after them
+-- Scan, tree and thermometer arbiter: "They are fewer than N/m rounded up", and with no smaller number would that be true
 abbrev pub BoundedWaiting : Type 0
 BoundedWaiting =
-    (s : State) (calls : List (Call By)) (w : ℕ) (past waiting rest : List (Made By))
-    → served (run cycle s calls) ≡ past ++ (waiting ++ rest)
-    → 0 < length waiting
-    → Each (asks w) waiting
-    → count (granted w) waiting ≡ 0
-    → Bounded (s .width) (s .picks) waiting
+    (s : State) (e : Engine) → Serves e s
+    → Least (λ limit. (w : ℕ) (waiting : List (Made By)) → Wait s w waiting → length waiting < limit) (ceiling (s .width) (s .picks))
+
+-- "and no other station is granted twice in them"; once it may be
+abbrev pub NotTwice : Type 0
+NotTwice =
+    Least (λ times. (s : State) (w : ℕ) (waiting : List (Made By)) → Wait s w waiting → (v : ℕ) → count (granted v) waiting < times) 2
 
 -- a station asks in each cycle until one grants it
 abbrev pub AsksUntilGranted : ℕ → List (Made By) → Type 0
 AsksUntilGranted w [] = Unit {0}
 AsksUntilGranted w (c ∷ cs) = (asks w c ≡ true) × (granted w c ≡ false → AsksUntilGranted w cs)
 
--- What follows for such a station, from any served cycle on: it is granted within N/m rounded up served cycles, the first
--- included, unless the list ends sooner
-abbrev pub GrantedInTime : Type 0
-GrantedInTime =
-    (s : State) (calls : List (Call By)) (w : ℕ) (past : List (Made By)) (first : Made By) (more : List (Made By))
+-- such a station, from any served cycle on, is granted within this many served cycles, the first included, unless the list ends
+-- sooner
+abbrev pub GrantedWithin : State → ℕ → Type 0
+GrantedWithin s limit =
+    (calls : List (Call By)) (w : ℕ) (past : List (Made By)) (first : Made By) (more : List (Made By))
     → served (run cycle s calls) ≡ past ++ (first ∷ more)
     → AsksUntilGranted w (first ∷ more)
-    → let limit = ceiling (s .width) (s .picks) in
-    (0 < count (granted w) (take limit (first ∷ more))) ⊎ (length (first ∷ more) < limit)
+    → (0 < count (granted w) (take limit (first ∷ more))) ⊎ (length (first ∷ more) < limit)
+
+-- What follows for it: N/m rounded up of them are enough, and fewer are not
+abbrev pub GrantedInTime : Type 0
+GrantedInTime = (s : State) (e : Engine) → Serves e s → Least (GrantedWithin s) (ceiling (s .width) (s .picks))
+
+-- the bus serves a state
+abbrev pub BusServes : State → Type 0
+BusServes s = (Bus.opening (s .width) (s .picks) (s .head)) .number ≡ 0
+
+-- of a state that it does not serve, as above
+abbrev pub BusUnservedRefused : Type 0
+BusUnservedRefused = (s : State) (calls : List (Call ℕ)) → (BusServes s → ⊥) → served (run busCycle s calls) ≡ []
 
 -- "An acknowledged cycle is a served one with acknowledge 1"
 abbrev pub acknowledged : Made ℕ → Bool
-acknowledged c = Bus.acknowledged (c .call .how)
+acknowledged c = eqb (c .call .how) 1
 
--- The bus. "Take any served cycles that follow one another, in all of which a station asks, unacknowledged ones too, and exactly N
--- of which are acknowledged. One of these N grants it"
-abbrev pub BusBoundedWaiting : Type 0
-BusBoundedWaiting =
-    (s : State) (calls : List (Call ℕ)) (w : ℕ) (past asking rest : List (Made ℕ))
+-- The bus. "Take any served cycles that follow one another, in all of which a station asks, unacknowledged ones too, and exactly"
+-- so many "of which are acknowledged. One of these" grants it
+abbrev pub GrantedAcknowledged : State → ℕ → Type 0
+GrantedAcknowledged s exactly =
+    (calls : List (Call ℕ)) (w : ℕ) (past asking rest : List (Made ℕ))
     → served (run busCycle s calls) ≡ past ++ (asking ++ rest)
-    → 0 < length asking
     → Each (asks w) asking
-    → count acknowledged asking ≡ s .width
+    → count acknowledged asking ≡ exactly
     → 0 < count (λ c. acknowledged c && granted w c) asking
+
+-- for N this is true, and for no smaller number
+abbrev pub BusBoundedWaiting : Type 0
+BusBoundedWaiting = (s : State) → BusServes s → Least (GrantedAcknowledged s) (s .width)

@@ -3,6 +3,7 @@
 use Prim.Native.Nat.{ℕ, _+_, _%_}
 use mathlib.Core.Bool.{Bool, true, false}
 use mathlib.Core.List.{List, [], _∷_}
+use lib.Dec.{eqb}
 use Rattle.rules.specs.declared.Head.the-variants.{At}
 use Rattle.rules.specs.RoundRobin as RoundRobin
 pub mod Laws
@@ -14,6 +15,10 @@ granted n t asks = RoundRobin.granted n 1 (At t) asks
 -- the grant buffer
 unfoldable pub grants : ℕ → ℕ → (ℕ → Bool) → List ℕ
 grants n t asks = RoundRobin.grants n 1 (At t) asks
+
+-- an acknowledge byte that acknowledges: "acknowledge is 1"
+abbrev pub acknowledged : ℕ → Bool
+acknowledged byte = eqb byte 1
 
 -- the token once these are granted: an acknowledged grant moves it one on from where it was, "whoever was granted"; otherwise
 -- it stays

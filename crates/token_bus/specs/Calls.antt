@@ -3,7 +3,6 @@
 use Prim.Native.Nat.{ℕ}
 use mathlib.Core.Bool.{Bool}
 use mathlib.Core.List.{List}
-use lib.Dec.{eqb}
 use lib.ListN.{length}
 use Rattle.rules.specs.declared.Head.{Head}
 use Rattle.rules.specs.declared.Head.the-variants.{At}
@@ -31,17 +30,13 @@ opening n m h = opened (state n m h) n m h
 abbrev pub token : State → ℕ
 token s = start (s .head)
 
--- an acknowledge byte that is 1
-abbrev pub acknowledged : ℕ → Bool
-acknowledged byte = eqb byte 1
-
 -- what a cycle decides, apart from any state: how many are granted, and the next token
 abbrev pub decision : ℕ → ℕ → Bool → (ℕ → Bool) → Decision
 decision n t ack asks = record { count = length (Bus.granted n t asks); next = At (Bus.next n t ack asks) }
 
 -- the answer of a served cycle
 abbrev pub answer : State → List ℕ → ℕ → Answer
-answer s requests byte = decided s (decision (s .width) (token s) (acknowledged byte) (asking s requests))
+answer s requests byte = decided s (decision (s .width) (token s) (Bus.acknowledged byte) (asking s requests))
 
 -- the grant buffer of a served cycle
 abbrev pub granting : State → List ℕ → List ℕ

@@ -76,3 +76,10 @@ writes-refused v s answer target former z n =
 -- a call that makes a state, with the verdict in hand
 pub opened-same : {v r : Verdict} {x : Answer} (n m : ℕ) (h : Head) → r ≡ v → x ≡ opened r n m h → x ≡ opened v n m h
 opened-same n m h e f = f ∙ rw e
+
+-- it is served exactly if its questions pass
+pub opened-passed : (v : Verdict) (n m : ℕ) (h : Head) → (opened v n m h) .number ≡ 0 → v .number ≡ 0
+opened-passed v n m h z = served-passed v _ _ (λ (a : Answer). a .number) refl z
+
+pub passed-opened : (v : Verdict) (n m : ℕ) (h : Head) → v .number ≡ 0 → (opened v n m h) .number ≡ 0
+passed-opened v n m h z = ap (λ (a : Answer). a .number) (passed-is v _ _ z)

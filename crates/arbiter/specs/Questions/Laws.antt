@@ -218,3 +218,19 @@ allows n m h a =
 
 pub writes : (n m : ℕ) (h : Head) (stated length : ℕ) → Allowed n m h → length ≡ stated → (write n m h stated length) .number ≡ 0
 writes n m h stated length a e = then-passed (state n m h) _ (allows n m h a) (rw (eq-eqb length stated e))
+
+pub bits-passes : (bytes : List ℕ) → Bits bytes → (bits 0 bytes) .number ≡ 0
+bits-passes bytes b = ap (λ (v : Verdict). v .number) (highest-passes bytes (bits-highest bytes b))
+
+-- another head that is none or a station passes where one did
+pub head-moves : (a : Verdict) (n : ℕ) (h k : Head) → (a then head n h) .number ≡ 0 → start k < n → (a then head n k) .number ≡ 0
+head-moves a n h k z l = then-passed a _ (then-served a (head n h) z .0) (head-passes n k l)
+
+pub lends : (byState : Verdict) (n : ℕ) (requests : List ℕ) (size : ℕ) → byState .number ≡ 0 → length requests ≡ n → size ≡ n
+    → Bits requests → (cycle byState n requests size) .verdict .number ≡ 0
+lends byState n requests size z long room wires =
+    then-passed (byState then readLength n (length requests) then writeLength n size) _
+    (then-passed (byState then readLength n (length requests)) _
+    (then-passed byState _ z (rw (eq-eqb (length requests) n long)))
+    (rw (eq-eqb size n room)))
+    (bits-passes requests wires)

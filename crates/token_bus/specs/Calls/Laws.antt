@@ -8,7 +8,7 @@ use mathlib.Core.List.{List, [], _∷_, _++_, append-nil}
 use native.Mathlib.Omega.{arith}
 use lib.Dec.{eqb, ltb}
 use lib.ListN.{length, set, replicate}
-use borrow.Author.Tests.{eq-eqb, ltb-true, ltb-false}
+use borrow.Author.Tests.{eq-eqb, ltb-true, ltb-false, lt-ltb, le-leb}
 use Rattle.rules.specs.declared.Head.{Head}
 use Rattle.rules.specs.declared.Head.the-variants.{None, At}
 use Rattle.rules.specs.Lists.{bit, range, filter, count, marks}
@@ -17,15 +17,18 @@ use Rattle.rules.specs.RoundRobin.{start, order}
 use Rattle.rules.specs.RoundRobin.Laws as RoundRobin
 use Rattle.rules.specs.Bus as Bus
 use Rattle.rules.specs.Bus.Laws as BusLaws
+use Rattle.arbiter.specs.declared.State.{State}
 use Rattle.arbiter.specs.declared.question.Reading.{Reading}
-use Rattle.arbiter.specs.Places.{ones, first, highest}
+use Rattle.arbiter.specs.Places.{ones, first, Bits, highest}
 use Rattle.arbiter.specs.Places.Laws.{first-none, first-some}
 use Rattle.arbiter.specs.Questions as Questions
 use Rattle.arbiter.specs.Questions.{_then_}
-use Rattle.arbiter.specs.Questions.Laws.{then-served, width-served, token-served, Lent, lent}
+use Rattle.arbiter.specs.Questions.Laws.{then-served, then-passed, width-served, token-served, Lent, lent, lends}
+use Rattle.arbiter.specs.Answers.{Outcome}
+use Rattle.arbiter.specs.Answers.Laws.{writes-is}
 use Rattle.arbiter.specs.Decisions.{requested}
 use Rattle.arbiter.specs.Decisions.Laws.{none-granted}
-use Rattle.token_bus.specs.Calls.{state, decision}
+use Rattle.token_bus.specs.Calls.{state, decision, answer, granting, cycle}
 
 -- what is known once 1, 3 and 4 have passed
 pub record Allowed (n : ℕ) (h : Head) : Type 0 where
@@ -53,6 +56,21 @@ pub ready : {r : Reading} (n m : ℕ) (h : Head) (requests : List ℕ) (size byt
 ready {r} n m h requests size byte e z =
     let l = lent (state n m h) n requests size e (then-served (r .verdict) (Questions.acknowledge byte) z .0) in
     record { allows = allowed n m h (l .before); lends = l }
+
+-- where a token passes, every station does
+pub token-moves : (n m : ℕ) (h : Head) (t : ℕ) → (state n m h) .number ≡ 0 → t < n → (state n m (At t)) .number ≡ 0
+token-moves n m h t z l =
+    let before = Questions.width n then Questions.onePick m in
+    then-passed before _ (then-served before (Questions.token n h) z .0) (rw (lt-ltb t n l))
+
+-- a cycle with buffers of the right lengths and bytes that are bits passes
+pub serves : (s : State) (requests former : List ℕ) (byte : ℕ) → (state (s .width) (s .picks) (s .head)) .number ≡ 0
+    → length requests ≡ s .width → length former ≡ s .width → Bits requests → byte ≤ 1
+    → (cycle s requests former byte) .answer .number ≡ 0
+serves s requests former byte z asked room wires bit =
+    let lent = lends (state (s .width) (s .picks) (s .head)) (s .width) requests (length former) z asked room wires in
+    ap (λ (o : Outcome). o .answer .number)
+    (writes-is _ s (answer s requests byte) (granting s requests) former (then-passed _ (Questions.acknowledge byte) lent (rw (le-leb byte 1 bit))))
 
 -- a list of one at most is its first
 first-only : (ps : List ℕ) (w : ℕ) → length ps ≤ 1 → first ps ≡ At w → ps ≡ w ∷ []

@@ -189,7 +189,7 @@ module _ (s : State) (requests : List ℕ) where
       let n = s .width in
       let t = Bus.token s in
       let asks = RoundRobin.asking s requests in
-      let ack = Bus.acknowledged byte in
+      let ack = BusNext.acknowledged byte in
       writes-printable (Bus.questions n (s .picks) (s .head) requests size byte) s (Bus.answer s requests byte) (Bus.granting s requests) (replicate n 0)
       (then-small
       (then-small

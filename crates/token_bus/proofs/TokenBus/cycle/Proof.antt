@@ -12,7 +12,7 @@ use Rattle.arbiter.specs.Answers.Laws.{written, unwritten}
 use Rattle.arbiter.specs.Cycle.{asking}
 use Rattle.arbiter.specs.Questions.{_then_}
 use Rattle.arbiter.specs.Questions.Laws.{chained, told}
-use Rattle.token_bus.specs.Calls.{acknowledged, decision}
+use Rattle.token_bus.specs.Calls.{decision}
 use Rattle.token_bus.specs.Calls.Laws.{Ready, ready}
 use Rattle.token_bus.proofs.TokenBus.cycle.Statement.{statement}
 use Rattle.token_bus.proofs.TokenBus.cycle.Tie as tie
@@ -81,7 +81,7 @@ returns-2 c =
     written _ _ (chained (t .then .ensures) (told (rw (q .before .state .ensures) at (q .cycle .ensures))) (t .before .acknowledge .ensures)) (e .if1 .left)
     (c .served .ensures
     ∙ ap (λ (d : Decision). decided s d)
-    (w .grant .ensures .0 ∙ ap (λ (t : ℕ). decision (s .width) t (acknowledged (a .acknowledge)) asks) (f .first-station .ensures)))
+    (w .grant .ensures .0 ∙ ap (λ (t : ℕ). decision (s .width) t (Bus.acknowledged (a .acknowledge)) asks) (f .first-station .ensures)))
     (w .grant .ensures .1 ∙ ap (λ (t : ℕ). Bus.grants (s .width) t asks) (f .first-station .ensures))
 
 pub cycle-spec : {M : Type 1} → statement M
