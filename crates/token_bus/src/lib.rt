@@ -29,16 +29,14 @@ impl TokenBus {
     pub fn open(width: usize, picks: usize) -> Answer
         ensures { λ r. ⌜ r ≡ Calls.opening width picks Head.None ⌝ }
     {
-        let verdict = question::state(width, picks, Head::None);
-        Answer::opened(verdict, width, picks, Head::None)
+        opening(width, picks, Head::None)
     }
 
     // Opens with a token. Asks 1, 3 and 4: two picks are refused by 3, and of 4 stations token 4 is refused by 4.
     pub fn open_at(width: usize, picks: usize, token: usize) -> Answer
         ensures { λ r. ⌜ r ≡ Calls.opening width picks (Head.At token) ⌝ }
     {
-        let verdict = question::state(width, picks, Head::At(token));
-        Answer::opened(verdict, width, picks, Head::At(token))
+        opening(width, picks, Head::At(token))
     }
 
     // One cycle: writes the grant of these requests, and answers with the count of grants and the next state. Asks 1, 3, 4, 5,
@@ -70,6 +68,14 @@ impl TokenBus {
         let next = decision.next;
         s.served(decision.count, next)
     }
+}
+
+// Makes a state of these. Asks 1, 3 and 4.
+fn opening(width: usize, picks: usize, head: Head) -> Answer
+    ensures { λ r. ⌜ r ≡ Calls.opening width picks head ⌝ }
+{
+    let verdict = question::state(width, picks, head);
+    Answer::opened(verdict, width, picks, head)
 }
 
 // A cycle that no question refuses, with a grant buffer that is all 0. `high` is the highest byte of the requests.

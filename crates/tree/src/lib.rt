@@ -28,16 +28,14 @@ impl Tree {
     pub fn open(width: usize, picks: usize) -> Answer
         ensures { λ r. ⌜ r ≡ Calls.opening width picks Head.None ⌝ }
     {
-        let verdict = question::state(width, picks, Head::None);
-        Answer::opened(verdict, width, picks, Head::None)
+        opening(width, picks, Head::None)
     }
 
     // Opens with a head. Asks 1, 2, 3 and 4: of 4 stations, head 4 is refused by 4.
     pub fn open_at(width: usize, picks: usize, head: usize) -> Answer
         ensures { λ r. ⌜ r ≡ Calls.opening width picks (Head.At head) ⌝ }
     {
-        let verdict = question::state(width, picks, Head::At(head));
-        Answer::opened(verdict, width, picks, Head::At(head))
+        opening(width, picks, Head::At(head))
     }
 
     // One cycle: writes the grants of these requests and the tree of the requests and the head, and answers with the count of
@@ -60,6 +58,14 @@ impl Tree {
         let next = decision.next;
         s.served(decision.count, next)
     }
+}
+
+// Makes a state of these. Asks 1, 2, 3 and 4.
+fn opening(width: usize, picks: usize, head: Head) -> Answer
+    ensures { λ r. ⌜ r ≡ Calls.opening width picks head ⌝ }
+{
+    let verdict = question::state(width, picks, head);
+    Answer::opened(verdict, width, picks, head)
 }
 
 // Grants the station that the descent reaches, if it asks. The grant buffer is all 0 before.
