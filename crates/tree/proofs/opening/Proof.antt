@@ -5,14 +5,7 @@ use Rattle.arbiter.specs.Answers.Laws.{opened-same}
 use Rattle.tree.proofs.opening.Statement.{statement}
 use Rattle.tree.proofs.opening.Tie as tie
 
-state-requires : tie.Need-state-requires
-state-requires c κs = search needs
-
-opened-requires : tie.Need-opened-requires
-opened-requires c κs = search needs
-
-returns : tie.Need-returns
-returns c = opened-same _ _ _ (c .before .state .ensures) (c .opened .ensures)
-
 pub opening-spec : {M : Type 1} → statement M
-opening-spec = tie.close (tie.spec state-requires opened-requires returns)
+opening-spec =
+    tie.close
+    (tie.spec (λ c κs. search needs) (λ c κs. search needs) (λ c. opened-same _ _ _ (c .before .state .ensures) (c .opened .ensures)))

@@ -5,14 +5,7 @@ use Rattle.arbiter.specs.Answers.Laws.{opened-same}
 use Rattle.arbiter.proofs.Answer.open.Statement.{statement}
 use Rattle.arbiter.proofs.Answer.open.Tie as tie
 
-state-requires : tie.Need-state-requires
-state-requires c κs = search needs
-
-opened-requires : tie.Need-opened-requires
-opened-requires c κs = search needs
-
-returns : tie.Need-returns
-returns c = opened-same _ _ _ (c .before .state .ensures) (c .opened .ensures)
-
 pub open-spec : {M : Type 1} → statement M
-open-spec = tie.close (tie.spec state-requires opened-requires returns)
+open-spec =
+    tie.close
+    (tie.spec (λ c κs. search needs) (λ c κs. search needs) (λ c. opened-same _ _ _ (c .before .state .ensures) (c .opened .ensures)))
