@@ -1,6 +1,6 @@
 -- Everything that the program `turns` prints, for any input: 01, "The program `turns`".
 -- Assumes nothing.
-use Prim.Native.Nat.{ℕ, _≤_}
+use Prim.Native.Nat.{ℕ, _+_, _≤_}
 use mathlib.Core.Path.{_≡_}
 use mathlib.Core.Bool.{cond}
 use mathlib.Core.List.{List, [], _∷_, _++_}
@@ -22,6 +22,10 @@ heading =
 -- the longest input that question 12 lets pass
 abbrev pub maxInput : ℕ
 maxInput = 65536
+
+-- how much is read: one byte more, so that a longer input is seen to be longer
+abbrev pub readSize : ℕ
+readSize = maxInput + 1
 
 -- what follows the heading once the first line is read: "A refused opening, and 11 or 12, print line number 0 in that form and
 -- end the run"

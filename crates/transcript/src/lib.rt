@@ -9,7 +9,7 @@ use first_line::FirstLine;
 ghost use mathlib.Core.List.{_++_};
 ghost use mathlib.Core.Path.{_≡_};
 ghost use Prim.Native.Nat.{_≤_};
-ghost use lib.ListN.{length, drop};
+ghost use lib.ListN.{length, take, drop};
 ghost use Rattle.text.specs.Characters as Characters;
 ghost use Rattle.text.specs.Output.{Put};
 ghost use Rattle.transcript.specs.Lines as Lines;
@@ -17,25 +17,33 @@ ghost use Rattle.transcript.specs.Text as Text;
 ghost use Rattle.transcript.specs.Text.{Counts};
 
 // The longest input that is served. A longer one is refused by 12.
-pub const MAX_INPUT: usize = 65536;
+const MAX_INPUT: usize = 65536;
+
+// How long the array is that an input is read into: one byte longer than the longest that is served, so that a longer one is seen
+// to be longer.
+pub const READ_SIZE: usize = MAX_INPUT + 1;
 
 // As long as a text can be: the heading, and 21 bytes for each byte of the longest input.
 pub const LIMIT: usize = 1376274;
 
-// Writes the whole text for this input at the start of the output, and answers how long it is. The rest of the output stays as it
-// was. Asks 12, then 11, then what the opening asks; each further line then asks 5, 8 and, for the bus, 9. The input `P 4 2`
-// and `1101`, each with a line feed, gives `line granted next` and `1 1100 2`, each with a line feed.
-pub fn run(input: &[u8], output: &mut [u8; LIMIT]) -> usize
-    ensures { λ r. ⌜ r ≡ length (Text.text (now (input .entry))) ⌝ }
-    ensures { λ _. ⌜ now (output .exit) ≡ Text.text (now (input .entry)) ++ drop (length (Text.text (now (input .entry)))) (now (output .entry)) ⌝ }
+// Writes the whole text for the first `read` bytes of the input at the start of the output, and answers how long it is. The rest of
+// the output stays as it was. Asks 12, then 11, then what the opening asks; each further line then asks 5, 8 and, for the bus, 9.
+// The input `P 4 2` and `1101`, each with a line feed, gives `line granted next` and `1 1100 2`, each with a line feed. A `read`
+// above the array's length takes all of it, and is so refused by 12. The last clause holds the array to its length: in a shorter
+// one no input would be seen to be too long.
+pub fn run(input: &[u8; READ_SIZE], read: usize, output: &mut [u8; LIMIT]) -> usize
+    ensures { λ r. ⌜ r ≡ length (Text.text (take read (now (input .entry)))) ⌝ }
+    ensures { λ _. ⌜ now (output .exit) ≡ Text.text (take read (now (input .entry))) ++ drop (length (Text.text (take read (now (input .entry))))) (now (output .entry)) ⌝ }
     ensures { λ r. ⌜ Counts r (now (output .exit)) ⌝ }
+    ensures { λ _. ⌜ length (now (input .entry)) ≡ Text.readSize ⌝ }
 {
+    let bytes: &[u8] = input;
     let at = text::put_all(b"line granted next\n", output, 0);
-    if input.len() > MAX_INPUT {
+    if read > MAX_INPUT {
         return output::put_refusal(0, refusal::INPUT_LENGTH, 0, output, at);
     }
-    let end = lines::unended(input);
-    answer(&input[..end], output, at)
+    let end = lines::unended(&bytes[..read]);
+    answer(&bytes[..end], output, at)
 }
 
 // What follows the heading, for an input without its final line feed.

@@ -2,13 +2,10 @@
 use libc::STDIN_FILENO;
 use libc::STDOUT_FILENO;
 
-// One byte more than the longest input that is served, so that a longer one is seen to be longer.
-const INPUT_SIZE: usize = transcript::MAX_INPUT + 1;
-
 fn main() {
-    let mut input = [0u8; INPUT_SIZE];
+    let mut input = [0u8; transcript::READ_SIZE];
     let read = io::read_full(STDIN_FILENO, &mut input);
     let mut output = [0u8; transcript::LIMIT];
-    let length = transcript::run(&input[..read], &mut output);
+    let length = transcript::run(&input, read, &mut output);
     io::write_all(STDOUT_FILENO, &output[..length]);
 }

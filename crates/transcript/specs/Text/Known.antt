@@ -2,8 +2,10 @@
 -- their characters. What a served cycle grants is not computed here, since the round-robin rule is shut; the test program runs
 -- 01's example.
 -- Assumes nothing.
+use Prim.Native.Nat.{ℕ, _+_, _≤_, _<_}
 use mathlib.Core.Path.{_≡_, refl}
-use mathlib.Core.List.{[], _∷_, _++_}
+use mathlib.Core.List.{List, [], _∷_, _++_}
+use lib.ListN.{length}
 use Rattle.text.specs.Characters.{digits, decimal}
 use Rattle.arbiter.specs.Questions.{_then_}
 use Rattle.arbiter.specs.Answers.{ifPassed}
@@ -13,7 +15,8 @@ use Rattle.transcript.specs.declared.first_line.FirstLine.the-variants.{
 use Rattle.transcript.specs.Lines.{place, split, unended, lines}
 use Rattle.transcript.specs.FirstLine.{wellFormed, number, firstLine}
 use Rattle.transcript.specs.Cycles.{cycle, refusal, granted, printed, run}
-use Rattle.transcript.specs.Text.{heading, opened, text}
+use Rattle.transcript.specs.Text.{heading, readSize, opened, answered, text}
+use Rattle.transcript.specs.Text.Laws.{text-refused, text-follows}
 
 -- a final line feed ends the last line, and a line feed after it makes an empty one
 known-lines : (lines (97 ∷ 98 ∷ []) ≡ (97 ∷ 98 ∷ []) ∷ []) × (lines (97 ∷ 98 ∷ 10 ∷ []) ≡ (97 ∷ 98 ∷ []) ∷ []) × (lines (97 ∷ 98 ∷ 10 ∷ 10 ∷ []) ≡ (97 ∷ 98 ∷ []) ∷ [] ∷ [])
@@ -63,3 +66,10 @@ known-lengths :
     × (text (66 ∷ 32 ∷ 49 ∷ 32 ∷ 49 ∷ 10 ∷ 49 ∷ []) ≡ heading ++ (49 ∷ 32 ∷ 114 ∷ 101 ∷ 102 ∷ 117 ∷ 115 ∷ 101 ∷ 100 ∷ 32 ∷ 53 ∷ 32 ∷ 48 ∷ 10 ∷ []))
 unfolding text opened run cycle printed refusal decimal digits firstLine number wellFormed place split unended _then_ ifPassed
 known-lengths = (refl, refl, refl)
+
+-- 12, whatever the bytes: 65,536 of them are answered, one more is refused, and so many are read
+known-longest : (input : List ℕ)
+    → (length input ≤ 65536 → text input ≡ heading ++ answered (lines input))
+    × (65536 < length input → text input ≡ heading ++ refusal 0 12 0)
+    × (readSize ≡ 65537)
+known-longest input = (text-follows input, text-refused input, refl)
