@@ -62,7 +62,7 @@ returns c =
     written array read size (omega arith) (same-put (sym is) (put-then (c .before .before .before .put-all .ensures) (c .put-refusal .ensures)))
 
 slice-aggregate-unended : tie.Need-slice-aggregate-unended
-slice-aggregate-unended c = sym (seen-whole _ _ (omega arith) (c .before .if1 .left))
+slice-aggregate-unended c = simp length-take (omega arith)
 
 unended-requires : tie.Need-unended-requires
 unended-requires c κs = search needs
