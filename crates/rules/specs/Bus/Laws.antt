@@ -6,9 +6,10 @@ use mathlib.Core.Bool.{Bool, true, false}
 use mathlib.Core.List.{List, [], _∷_}
 use native.Mathlib.Omega.{arith}
 use native.Mathlib.Nat.{mod-lt}
+use lib.Dec.{eqb}
 use lib.ListN.{length, getD}
 use Rattle.rules.specs.declared.Head.the-variants.{At}
-use Rattle.rules.specs.Lists.{bit, member, marks, before}
+use Rattle.rules.specs.Lists.{bit, count, member, marks, before}
 use Rattle.rules.specs.RoundRobin.{start, order}
 use Rattle.rules.specs.RoundRobin.Laws as RoundRobin
 use Rattle.rules.specs.Bus.{granted, grants, after, next}
@@ -38,6 +39,12 @@ grants-marks n t asks = RoundRobin.grants-marks n 1 (At t) asks
 pub grants-member : (n t : ℕ) (asks : ℕ → Bool) (w : ℕ) → w < n → getD (grants n t asks) w 0 ≡ bit (member w (granted n t asks))
 unfolding granted grants
 grants-member n t asks w station = RoundRobin.grants-member n 1 (At t) asks w station
+
+-- as many of its bytes are 1 as stations are granted
+pub grants-count : (n t : ℕ) (asks : ℕ → Bool) → t < n → count (λ b. eqb b 1) (grants n t asks) ≡ length (granted n t asks)
+unfolding granted grants
+grants-count n t asks token =
+    let head = token-head n t token in RoundRobin.grants-count n 1 (At t) asks (omega arith)
 
 -- the station at the token is granted if it asks
 pub grants-token : (n t : ℕ) (asks : ℕ → Bool) → t < n → asks t ≡ true → getD (grants n t asks) t 0 ≡ 1

@@ -51,12 +51,12 @@ pub count-all : {A : Type 0} (xs : List A) → count (λ _. true) xs ≡ length 
 count-all [] = refl
 count-all (x ∷ xs) = omega (arith, count-all xs)
 
--- filtering two lists, one after the other
 -- a test that nothing passes counts none
 pub count-never : {A : Type 0} (p : A → Bool) → ((x : A) → p x ≡ false) → (xs : List A) → count p xs ≡ 0
 count-never p none [] = refl
 count-never p none (x ∷ xs) = rw (none x) (omega (arith, count-never p none xs))
 
+-- filtering two lists, one after the other
 pub filter-append : {A : Type 0} (p : A → Bool) (xs ys : List A) → filter p (xs ++ ys) ≡ filter p xs ++ filter p ys
 filter-append p [] ys = refl
 filter-append p (x ∷ xs) ys = split (p x) (λ e. rw (e, filter-append p xs ys)) (λ e. rw (e, filter-append p xs ys))
@@ -304,6 +304,57 @@ marks-one n w station =
         split (eqb i w)
         (λ t. rw (t, eqb-true i w t) (getD-set-same (replicate n 0) w 1 0 (omega (arith, length-replicate {A = ℕ} n 0))))
         (λ f. rw f (getD-set-other (replicate n 0) w i 1 0 (eqb-false i w f) ∙ getD-replicate n i 0 0 k))
+
+-- no more of any kind stand in a list's beginning
+pub count-take-le : (p : ℕ → Bool) (m : ℕ) (xs : List ℕ) → count p (take m xs) ≤ count p xs
+count-take-le p zero xs = omega arith
+count-take-le p (suc m) [] = omega arith
+count-take-le p (suc m) (x ∷ xs) = omega (arith, count-take-le p m xs)
+
+-- as many marks are 1 as numbers pass
+count-marks : (p : ℕ → Bool) (xs : List ℕ) → count (λ b. eqb b 1) (map (λ w. bit (p w)) xs) ≡ count p xs
+count-marks p [] = refl
+count-marks p (x ∷ xs) = split (p x) (λ e. rw e (omega (arith, count-marks p xs))) (λ e. rw e (omega (arith, count-marks p xs)))
+
+-- those of a list that lie below n, where n is one number more
+below-next : (n : ℕ) (xs : List ℕ) → count (λ x. ltb x (suc n)) xs ≡ count (λ x. ltb x n) xs + count (eqb n) xs
+below-next n [] = refl
+below-next n (x ∷ xs) =
+    split (ltb x n)
+    (λ t.
+    let l = ltb-true x n t in
+    rw (t, lt-ltb x (suc n) (omega arith), ne-eqb n x (λ e. omega arith)) (omega (arith, below-next n xs)))
+    (λ f.
+    let l = ltb-false x n f in
+    split (eqb n x)
+    (λ t. let e = eqb-true n x t in rw (f, t, lt-ltb x (suc n) (omega arith)) (omega (arith, below-next n xs)))
+    (λ g. let d = eqb-false n x g in rw (f, g, le-ltb x (suc n) (omega arith)) (omega (arith, below-next n xs))))
+
+-- a list that holds each number at most once, and none from n on, has as many as there are marks
+module _ (xs : List ℕ) (once : (w : ℕ) → count (eqb w) xs ≤ 1) where
+  member-once : (w : ℕ) → bit (member w xs) ≡ count (eqb w) xs
+  member-once w =
+      split (member w xs)
+      (λ t. rw t (omega (arith, ap bit t, member-count w xs, once w)))
+      (λ f. rw f (omega (arith, uncounted w xs f)))
+
+  members-below : (n : ℕ) → count (λ w. member w xs) (range 0 n) ≡ count (λ x. ltb x n) xs
+  members-below zero = sym (count-never (λ x. ltb x 0) (λ x. le-ltb x 0 (omega arith)) xs)
+  members-below (suc n) =
+      let more : range 0 (suc n) ≡ range 0 n ++ (n ∷ []) = rw zero-add at (range-snoc 0 n) in
+      ap (count (λ w. member w xs)) more
+      ∙ count-append (λ w. member w xs) (range 0 n) (n ∷ [])
+      ∙ omega (arith, members-below n, member-once n, below-next n xs)
+
+  pub marks-count : (n : ℕ) → ((w : ℕ) → n ≤ w → count (eqb w) xs ≡ 0) → count (λ b. eqb b 1) (marks n xs) ≡ length xs
+  marks-count n out = count-marks (λ w. member w xs) (range 0 n) ∙ members-below n ∙ all xs out
+    where
+      all : (ys : List ℕ) → ((w : ℕ) → n ≤ w → count (eqb w) ys ≡ 0) → count (λ y. ltb y n) ys ≡ length ys
+      all [] f = refl
+      all (y ∷ ys) f =
+          split (ltb y n)
+          (λ t. rw t (omega (arith, all ys (λ w l. omega (arith, f w l)))))
+          (λ g. absurd (omega (arith, f y (omega (arith, ltb-false y n g)), ap bit (eq-eqb y y refl))))
 
 -- an entry of a table is that of one of its numbers
 pub table-entry : (f : ℕ → ℕ) (x a k : ℕ) → member x (map f (range a k)) ≡ true → (i : ℕ) × (a ≤ i) × (i < a + k) × (x ≡ f i)

@@ -216,6 +216,25 @@ pub grants-marks : (n m : ℕ) (h : Head) (asks : ℕ → Bool) → grants n m h
 unfolding grants
 grants-marks n m h asks = refl
 
+-- nobody is granted twice
+granted-once : (n m : ℕ) (h : Head) (asks : ℕ → Bool) (w : ℕ) → count (eqb w) (granted n m h asks) ≤ count (eqb w) (order n h)
+unfolding granted
+granted-once n m h asks w =
+    omega (arith, Lists.count-take-le (eqb w) m (filter asks (order n h)), Lists.count-filter-le (eqb w) asks (order n h))
+
+-- so as many bytes of the grant buffer are 1 as stations are granted
+pub grants-count : (n m : ℕ) (h : Head) (asks : ℕ → Bool) → start h ≤ n
+    → count (λ b. eqb b 1) (grants n m h asks) ≡ length (granted n m h asks)
+unfolding grants
+grants-count n m h asks l =
+    Lists.marks-count (granted n m h asks)
+    (λ w.
+    Lists.split (ltb w n)
+    (λ t. omega (arith, granted-once n m h asks w, order-once n h w l (ltb-true w n t)))
+    (λ f. omega (arith, granted-once n m h asks w, order-outside n h w l (ltb-false w n f))))
+    n
+    (λ w k. omega (arith, granted-once n m h asks w, order-outside n h w l k))
+
 -- the next head is one past the one granted last, modulo n
 pub next-last : (n m : ℕ) (h : Head) (asks : ℕ → Bool) (front : List ℕ) (w : ℕ) → granted n m h asks ≡ front ++ (w ∷ [])
     → next n m h asks ≡ At ((w + 1) % n)

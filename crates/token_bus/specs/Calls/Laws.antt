@@ -1,5 +1,5 @@
--- Laws of the bus's calls: what is known once the questions have passed; what a cycle decides and grants once the first
--- station that asks is found.
+-- Laws of the bus's calls: what is known once the questions have passed; that a served cycle is by the bus's rule; what a cycle
+-- decides and grants once the first station that asks is found.
 -- Assumes nothing.
 use Prim.Native.Nat.{ℕ, _+_, _-_, _%_, _≤_, _<_}
 use mathlib.Core.Path.{_≡_, refl, sym, ap, _∙_}
@@ -25,10 +25,10 @@ use Rattle.arbiter.specs.Questions as Questions
 use Rattle.arbiter.specs.Questions.{_then_}
 use Rattle.arbiter.specs.Questions.Laws.{then-served, then-passed, width-served, token-served, Lent, lent, lends}
 use Rattle.arbiter.specs.Answers.{Outcome}
-use Rattle.arbiter.specs.Answers.Laws.{writes-is}
+use Rattle.arbiter.specs.Answers.Laws.{writes-passed, writes-is}
 use Rattle.arbiter.specs.Decisions.{requested}
 use Rattle.arbiter.specs.Decisions.Laws.{none-granted}
-use Rattle.token_bus.specs.Calls.{state, decision, answer, granting, cycle}
+use Rattle.token_bus.specs.Calls.{state, decision, answer, granting, questions, cycle}
 
 -- what is known once 1, 3 and 4 have passed
 pub record Allowed (n : ℕ) (h : Head) : Type 0 where
@@ -56,6 +56,29 @@ pub ready : {r : Reading} (n m : ℕ) (h : Head) (requests : List ℕ) (size byt
 ready {r} n m h requests size byte e z =
     let l = lent (state n m h) n requests size e (then-served (r .verdict) (Questions.acknowledge byte) z .0) in
     record { allows = allowed n m h (l .before); lends = l }
+
+-- a cycle that was served by the rule: what its token and its requests were, what it answered, and what its grant buffer holds
+pub record Served (s : State) (requests : List ℕ) (byte : ℕ) (o : Outcome) : Type 0 where
+  pub passed : (state (s .width) (s .picks) (s .head)) .number ≡ 0
+  pub token : start (s .head) < s .width
+  pub asked : length requests ≡ s .width
+  pub answers : o .answer ≡ answer s requests byte
+  pub grants : o .written ≡ granting s requests
+
+pub cycle-served : (s : State) (requests former : List ℕ) (byte : ℕ)
+    → let o = cycle s requests former byte in o .answer .number ≡ 0 → Served s requests byte o
+cycle-served s requests former byte z =
+    let v = questions (s .width) (s .picks) (s .head) requests (length former) byte in
+    let p = writes-passed v s _ _ former z in
+    let r = ready (s .width) (s .picks) (s .head) requests (length former) byte refl p in
+    let is = writes-is v s (answer s requests byte) (granting s requests) former p in
+    record {
+      passed = r .lends .before;
+      token = r .allows .station;
+      asked = r .lends .asked;
+      answers = ap (λ (o : Outcome). o .answer) is;
+      grants = ap (λ (o : Outcome). o .written) is;
+    }
 
 -- where a token passes, every station does
 pub token-moves : (n m : ℕ) (h : Head) (t : ℕ) → (state n m h) .number ≡ 0 → t < n → (state n m (At t)) .number ≡ 0
