@@ -7,7 +7,7 @@ use mathlib.Core.Bool.{Bool, true, false, cond}
 use mathlib.Core.List.{List, [], _∷_, map}
 use native.Mathlib.Omega.{arith}
 use lib.Dec.{ltb, eqb}
-use lib.ListN.{length, getD, List·getD-eq-default}
+use lib.ListN.{getD, List·getD-eq-default}
 use borrow.Author.Tests.{ltb-true, ltb-false, eqb-true, eqb-false}
 use Rattle.rules.specs.declared.Head.{Head}
 use Rattle.rules.specs.declared.Head.the-variants.{At}
@@ -20,9 +20,8 @@ use Rattle.rules.specs.Bus as BusRule
 use Rattle.arbiter.specs.declared.Answer.{Answer}
 use Rattle.arbiter.specs.declared.State.{State}
 use Rattle.arbiter.specs.Answers.{Outcome, moved}
-use Rattle.arbiter.specs.Answers.Laws.{writes-passed, writes-is, writes-refused}
+use Rattle.arbiter.specs.Answers.Laws.{writes-refused}
 use Rattle.engines.specs.Calls.Laws.{Served, engine-served, engine-refused}
-use Rattle.token_bus.specs.Calls as Bus
 use Rattle.token_bus.specs.Calls.Laws as BusLaws
 use Rattle.fairness.specs.Cycles as Cycles
 use Rattle.fairness.specs.Cycles.{Ruled, nextHead, Chain, Follows}
@@ -112,35 +111,12 @@ pub read-follows : (s : State) (h : Head) (cs : List (Made By)) → Chain (Right
 read-follows s h [] chain = tt
 read-follows s h (c ∷ cs) chain = (read-ruled s h c (chain .0), read-follows s (headAfter s h c) cs (chain .1))
 
--- a call that is served by the bus's rule
-pub record BusRuled (s : State) (requests : List ℕ) (byte : ℕ) (o : Outcome) : Type 0 where
-  pub passed : (Bus.state (s .width) (s .picks) (s .head)) .number ≡ 0
-  pub token : Bus.token s < s .width
-  pub asked : length requests ≡ s .width
-  pub answers : o .answer ≡ Bus.answer s requests byte
-  pub grants : o .written ≡ Bus.granting s requests
-
-pub bus-served : (byte : ℕ) (s : State) (requests former : List ℕ) → let o = busCycle byte s requests former in o .answer .number ≡ 0
-    → BusRuled s requests byte o
-bus-served byte s requests former z =
-    let v = Bus.questions (s .width) (s .picks) (s .head) requests (length former) byte in
-    let p = writes-passed v s _ _ former z in
-    let r = BusLaws.ready (s .width) (s .picks) (s .head) requests (length former) byte refl p in
-    let is = writes-is v s (Bus.answer s requests byte) (Bus.granting s requests) former p in
-    record {
-      passed = r .lends .before;
-      token = r .allows .station;
-      asked = r .lends .asked;
-      answers = ap (λ (o : Outcome). o .answer) is;
-      grants = ap (λ (o : Outcome). o .written) is;
-    }
-
 pub bus-refused-unchanged : BusRefusedUnchanged
 bus-refused-unchanged byte s requests former n = writes-refused _ s _ _ former refl n
 
 -- a served cycle of the bus, with the token before it in head h
 abbrev pub BusRight : State → Head → Made ℕ → Type 0
-BusRight s h c = BusRuled (moved s h) (c .call .requests) (c .call .how) (c .left)
+BusRight s h c = BusLaws.Served (moved s h) (c .call .requests) (c .call .how) (c .left)
 
 -- the token after it, as a head
 abbrev pub nextToken : State → Head → Made ℕ → Head
@@ -151,7 +127,7 @@ pub bus-cycles : (s : State) (calls : List (Call ℕ)) → Chain (BusRight s) (n
 bus-cycles s calls =
     follows busCycle s (BusRight s) (nextToken s)
     (λ h c z.
-    let r = bus-served (c .how) (moved s h) (c .requests) (c .grants) z in
+    let r = BusLaws.cycle-served (moved s h) (c .requests) (c .grants) (c .how) z in
     (r, ap (λ (a : Answer). a .state) (r .answers)))
     (λ h c n. bus-refused-unchanged (c .how) (moved s h) (c .requests) (c .grants) n .0)
     (s .head)

@@ -32,7 +32,7 @@ use Rattle.token_bus.specs.Calls.Laws as BusCallLaws
 use Rattle.fairness.specs.Waiting as Waiting
 use Rattle.fairness.specs.Waiting.{By, Call, Made, cycle, busCycle, run, served, asks, Each, Serves, Wait, AsksUntilGranted, GrantedWithin, BusServes, acknowledged, GrantedAcknowledged}
 use Rattle.fairness.proofs.Cycles.{all-front, all-nearer, bus-nearer}
-use Rattle.fairness.proofs.Calls.{read-ruled, bus-served}
+use Rattle.fairness.proofs.Calls.{read-ruled}
 
 -- all of n stations ask
 module _ (n : ℕ) where
@@ -291,7 +291,7 @@ module _ (s : State) (opens : BusServes s) where
       let z =
       BusCallLaws.serves (moved s h) (ones n) (replicate n 0) 1 g
       (length-replicate {A = ℕ} n 1) (length-replicate {A = ℕ} n 0) (ones-bits n) (omega arith) in
-      let r = bus-served 1 (moved s h) (ones n) (replicate n 0) z in (
+      let r = BusCallLaws.cycle-served (moved s h) (ones n) (replicate n 0) 1 z in (
         z,
         ap (λ (a : Answer). a .state) (r .answers),
         BusCallLaws.token-moves n (s .picks) h _ g (BusLaws.next-below n (start h) true (everyone n) (r .token)),
@@ -310,7 +310,7 @@ module _ (s : State) (opens : BusServes s) where
     passed-by h g l =
         let n = s .width in
         let t = start h in
-        let r = bus-served 1 (moved s h) (ones n) (replicate n 0) (bus-call-serves h g .0) in
+        let r = BusCallLaws.cycle-served (moved s h) (ones n) (replicate n 0) 1 (bus-call-serves h g .0) in
         let head = BusLaws.token-head n t (r .token) in
         let out : member w (granted n 1 (At t) (everyone n)) ≡ false =
         Laws.granted-member n 1 (At t) (everyone n) w (omega arith) station
@@ -322,7 +322,7 @@ module _ (s : State) (opens : BusServes s) where
     bus-closer h g l =
         let n = s .width in
         let t = start h in
-        let r = bus-served 1 (moved s h) (ones n) (replicate n 0) (bus-call-serves h g .0) in
+        let r = BusCallLaws.cycle-served (moved s h) (ones n) (replicate n 0) 1 (bus-call-serves h g .0) in
         let head = BusLaws.token-head n t (r .token) in
         let to : Bus.next n t true (everyone n) ≡ (t + 1) % n =
         BusLaws.next-acknowledged n t (everyone n) (BusLaws.granted-some n t w (everyone n) (r .token) station (asks-all n w station)) in
