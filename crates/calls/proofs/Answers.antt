@@ -87,13 +87,13 @@ after s requests = moved s (Rule.next (s .width) (s .picks) (s .head) (RoundRobi
 
 abbrev busAfter : State → List ℕ → ℕ → State
 busAfter s requests byte =
-    moved s (At (BusRule.next (s .width) (Bus.token s) (Bus.acknowledged byte) (RoundRobin.asking s requests)))
+    moved s (At (BusRule.next (s .width) (Bus.token s) (BusRule.acknowledged byte) (RoundRobin.asking s requests)))
 
 -- its count is that of the bytes that are 1
 counted : (s : State) (requests : List ℕ) (a : Answer) (bytes : List ℕ) → Served s requests a bytes
     → a ≡ served (ones bytes) (after s requests)
 counted s requests a bytes r =
-    let is = RuleLaws.grants-count (s .width) (s .picks) (s .head) (RoundRobin.asking s requests) (omega (arith, r .head)) in
+    let is = RuleLaws.grants-count (s .width) (s .picks) (s .head) (RoundRobin.asking s requests) (omega (arith, r .allows .station)) in
     r .answers ∙ ap (λ (k : ℕ). served k (after s requests)) (sym (ap ones (r .granted) ∙ is))
 
 bus-counted : (s : State) (requests : List ℕ) (byte : ℕ) (o : Outcome) → BusLaws.Served s requests byte o
@@ -224,13 +224,13 @@ place-zero c =
 pub head-after : HeadAfter
 head-after (engineCycle e s requests grants nodes) z =
     let r = engine-served e s requests grants nodes z in
-    let k = RuleLaws.next-head (s .width) (s .picks) (s .head) (RoundRobin.asking s requests) (r .head) in
+    let k = RuleLaws.next-head (s .width) (s .picks) (s .head) (RoundRobin.asking s requests) (r .allows .station) in
     (k .0, k .1, ap (λ (a : Answer). a .state) (r .answers) ∙ ap (moved s) (k .2))
 head-after (busCycle s requests grants byte) z =
     let r = BusLaws.cycle-served s requests grants byte z in
     let asks = RoundRobin.asking s requests in (
-      BusRule.next (s .width) (Bus.token s) (Bus.acknowledged byte) asks,
-      BusRuleLaws.next-below (s .width) (Bus.token s) (Bus.acknowledged byte) asks (r .token),
+      BusRule.next (s .width) (Bus.token s) (BusRule.acknowledged byte) asks,
+      BusRuleLaws.next-below (s .width) (Bus.token s) (BusRule.acknowledged byte) asks (r .token),
       ap (λ (a : Answer). a .state) (r .answers),
     )
 

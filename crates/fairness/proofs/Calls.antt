@@ -25,7 +25,7 @@ use Rattle.engines.specs.Calls.Laws.{Served, engine-served, engine-refused}
 use Rattle.token_bus.specs.Calls.Laws as BusLaws
 use Rattle.fairness.specs.Cycles as Cycles
 use Rattle.fairness.specs.Cycles.{Ruled, nextHead, Chain, Follows}
-use Rattle.fairness.specs.Waiting.{By, Call, Made, cycle, busCycle, RefusedUnchanged, BusRefusedUnchanged, run, served, asks, granted, acknowledged}
+use Rattle.fairness.specs.Waiting.{By, Call, Made, cycle, busCycle, run, served, asks, granted, acknowledged}
 
 -- one more is kept, or is not
 kept : {C : Type 0} (right : Head → C → Type 0) (next : Head → C → Head) (h : Head) (c : C) (cs : List C) (keep : Bool)
@@ -57,9 +57,6 @@ module _ {How : Type 0} (leaves : How → State → List ℕ → List ℕ → Ou
       (λ t. let r = serves h c (eqb-true _ 0 t) in (r .0, from (next h made) _ cs (r .1) (follows (next h made) cs)))
       (λ f. from h _ cs (refuses h c (eqb-false _ 0 f)) (follows h cs))
 
-pub refused-unchanged : RefusedUnchanged
-refused-unchanged = engine-refused
-
 -- a served call of a list, with head h before it
 abbrev pub Right : State → Head → Made By → Type 0
 Right s h c = Served (moved s h) (c .call .requests) (c .left .answer) (c .left .written)
@@ -79,7 +76,7 @@ cycles s calls =
     (λ h c z.
     let r = engine-served (c .how .engine) (moved s h) (c .requests) (c .grants) (c .how .nodes) z in
     (r, ap (λ (a : Answer). a .state) (r .answers)))
-    (λ h c n. refused-unchanged (c .how .engine) (moved s h) (c .requests) (c .grants) (c .how .nodes) n .0)
+    (λ h c n. engine-refused (c .how .engine) (moved s h) (c .requests) (c .grants) (c .how .nodes) n .0)
     (s .head)
     calls
 
@@ -111,9 +108,6 @@ pub read-follows : (s : State) (h : Head) (cs : List (Made By)) → Chain (Right
 read-follows s h [] chain = tt
 read-follows s h (c ∷ cs) chain = (read-ruled s h c (chain .0), read-follows s (headAfter s h c) cs (chain .1))
 
-pub bus-refused-unchanged : BusRefusedUnchanged
-bus-refused-unchanged byte s requests former n = writes-refused _ s _ _ former refl n
-
 -- a served cycle of the bus, with the token before it in head h
 abbrev pub BusRight : State → Head → Made ℕ → Type 0
 BusRight s h c = BusLaws.Served (moved s h) (c .call .requests) (c .call .how) (c .left)
@@ -129,6 +123,6 @@ bus-cycles s calls =
     (λ h c z.
     let r = BusLaws.cycle-served (moved s h) (c .requests) (c .grants) (c .how) z in
     (r, ap (λ (a : Answer). a .state) (r .answers)))
-    (λ h c n. bus-refused-unchanged (c .how) (moved s h) (c .requests) (c .grants) n .0)
+    (λ h c n. writes-refused _ (moved s h) _ _ (c .grants) refl n .0)
     (s .head)
     calls

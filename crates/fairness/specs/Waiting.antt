@@ -42,21 +42,8 @@ cycle by s requests grants =
 abbrev pub busCycle : ℕ → State → List ℕ → List ℕ → Outcome
 busCycle acknowledge s requests grants = Bus.cycle s requests grants acknowledge
 
--- "a refused one changes nothing": it returns the state that it was given, and grant buffer and node buffer keep their bytes
-abbrev pub RefusedUnchanged : Type 0
-RefusedUnchanged =
-    (e : Engine) (s : State) (requests grants nodes : List ℕ)
-    → let o = Engines.cycle e s requests grants nodes in
-    (o .answer .number ≡ 0 → ⊥) → (o .answer .state ≡ s) × (o .grants ≡ grants) × (o .nodes ≡ nodes)
-
--- the same of the bus
-abbrev pub BusRefusedUnchanged : Type 0
-BusRefusedUnchanged =
-    (acknowledge : ℕ) (s : State) (requests grants : List ℕ)
-    → let o = busCycle acknowledge s requests grants in
-    (o .answer .number ≡ 0 → ⊥) → (o .answer .state ≡ s) × (o .written ≡ grants)
-
--- a list of calls: "Each cycle gets the state the last one returned", a refused one too
+-- a list of calls: "Each cycle gets the state the last one returned", a refused one too. That "a refused one changes nothing" is
+-- `refused-as-given` of the crate calls
 abbrev pub run : {How : Type 0} → (How → State → List ℕ → List ℕ → Outcome) → State → List (Call How) → List (Made How)
 run leaves s [] = []
 run leaves s (c ∷ cs) =
