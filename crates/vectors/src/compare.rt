@@ -1,81 +1,42 @@
 // Comparing what calls answer and write with what they should.
-use crate::report::Part;
+use crate::engine;
 use arbiter::Answer;
 use arbiter::State;
 use rules::Head;
 use thermometer::adder::Sum;
 
-// Whether two heads are the same.
-pub(crate) fn same_head(a: Head, b: Head) -> bool {
-    match a {
-        Head::None => match b {
-            Head::None => true,
-            Head::At(_) => false,
-        },
-        Head::At(x) => match b {
-            Head::None => false,
-            Head::At(y) => x == y,
-        },
+// Whether there is a head.
+pub(crate) fn headed(h: Head) -> bool {
+    match h {
+        Head::None => false,
+        Head::At(_) => true,
+    }
+}
+
+// The station of the head, 0 where there is none.
+pub(crate) fn station(h: Head) -> usize {
+    match h {
+        Head::None => 0,
+        Head::At(station) => station,
     }
 }
 
 // Whether two states are the same.
-pub(crate) fn same_state(a: State, b: State) -> bool {
+fn same_state(a: State, b: State) -> bool {
     let h = a.head;
     let g = b.head;
-    (a.width == b.width) & (a.picks == b.picks) & same_head(h, g)
+    let heads = (headed(h) == headed(g)) & (station(h) == station(g));
+    (a.width == b.width) & (a.picks == b.picks) & heads
 }
 
-// Whether two buffers hold the same bytes.
-pub(crate) fn same_bytes(a: &[u8], b: &[u8]) -> bool {
-    if a.len() != b.len() {
-        return false;
-    }
-    let mut i: usize = 0;
-    while i < a.len() {
-        if a[i] != b[i] {
-            return false;
-        }
-        i += 1;
-    }
-    true
-}
-
-// Whether every byte is this one.
-pub(crate) fn all_are(bytes: &[u8], byte: u8) -> bool {
-    let mut i: usize = 0;
-    while i < bytes.len() {
-        if bytes[i] != byte {
-            return false;
-        }
-        i += 1;
-    }
-    true
-}
-
-// The first part in which an answer differs from these.
-pub(crate) fn answer(a: Answer, number: usize, place: usize, count: usize, s: State) -> Part {
+// Whether an answer has this number, place, count and state.
+pub(crate) fn answer(a: Answer, number: usize, place: usize, count: usize, s: State) -> bool {
     let state = a.state;
-    if a.number != number {
-        return Part::Number;
-    }
-    if a.place != place {
-        return Part::Place;
-    }
-    if a.count != count {
-        return Part::Count;
-    }
-    if same_state(state, s) {
-        return Part::Same;
-    }
-    Part::State
+    (a.number == number) & (a.place == place) & (a.count == count) & same_state(state, s)
 }
 
-// The state that an opening returns: the one it was to make where it is served, and else width 0, no picks and no head.
-pub(crate) fn opened(number: usize, s: State) -> State {
-    if number == 0 {
-        return s;
-    }
+// What a call returns that makes a state and is refused.
+pub(crate) fn nothing() -> State {
     State {
         width: 0,
         picks: 0,
@@ -83,40 +44,31 @@ pub(crate) fn opened(number: usize, s: State) -> State {
     }
 }
 
-// The first part in which a sum differs from these.
-pub(crate) fn sum(a: Sum, number: usize, code: u8) -> Part {
-    if a.number != number {
-        return Part::Number;
+// Opens with the width, the picks and the head of a state, which is what it makes where the number is 0, and else nothing.
+pub(crate) fn opening(e: usize, s: State, number: usize) -> bool {
+    let a = engine::open(e, s);
+    if number == 0 {
+        return answer(a, 0, 0, 0, s);
     }
-    if a.place != 0 {
-        return Part::Place;
-    }
-    if a.code != code {
-        return Part::Code;
-    }
-    Part::Same
+    answer(a, number, 0, 0, nothing())
 }
 
-// The first of two that differs.
-pub(crate) fn first(part: Part, other: Part) -> Part {
-    then(part, false, other)
+// Whether a sum has this number and code.
+pub(crate) fn sum(a: Sum, number: usize, code: u8) -> bool {
+    (a.number == number) & (a.place == 0) & (a.code == code)
 }
 
-// The first part that differs, or else `other` where that is not the same.
-pub(crate) fn then(part: Part, same: bool, other: Part) -> Part {
-    match part {
-        Part::Same => {
-            if same {
-                return Part::Same;
-            }
-            other
+// Whether a buffer begins with these bytes.
+pub(crate) fn begins(buffer: &[u8], known: &[u8]) -> bool {
+    if buffer.len() < known.len() {
+        return false;
+    }
+    let mut i: usize = 0;
+    while i < known.len() {
+        if buffer[i] != known[i] {
+            return false;
         }
-        Part::Number => part,
-        Part::Place => part,
-        Part::Count => part,
-        Part::State => part,
-        Part::Code => part,
-        Part::Bytes => part,
-        Part::Nodes => part,
+        i += 1;
     }
+    true
 }

@@ -1,151 +1,81 @@
 // The one-hot image and the snapshot, each way, for every head and none of several widths.
 use crate::compare;
-use crate::report::Part;
-use crate::report::Tally;
-use arbiter::Answer;
+use crate::engine;
+use crate::engine::Lengths;
+use crate::report::Outcome;
+use crate::small;
 use arbiter::State;
-use one_hot::OneHot;
 use rules::Head;
-use snapshot::Snapshot;
+ghost use Prim.Native.Nat.{_≤_};
 
 const WIDTHS: [usize; 10] = [1, 2, 3, 8, 9, 64, 127, 128, 255, 256];
 
-pub enum Form {
-    Image,
-    Snapshot,
-}
+// 257 heads, 10 widths.
+pub(crate) const CASES: usize = 257 * 10;
 
-pub(crate) fn all(form: Form, name: &[u8]) -> Tally {
-    let mut t = Tally::new();
-    let mut i: usize = 0;
-    while i < 10 {
-        t = of_width(form, name, WIDTHS[i], t);
-        i += 1;
+// A state with as many picks as it may have, as an image if `form` is 0, and as a snapshot if it is 1.
+pub(crate) fn case(form: usize, i: usize) -> Outcome {
+    let width = WIDTHS[i / 257 % 10];
+    if width < i % 257 {
+        return Outcome::Skipped;
     }
-    t
-}
-
-fn of_width(form: Form, name: &[u8], width: usize, t: Tally) -> Tally {
-    let mut t = one(form, name, state(width, Head::None), t);
-    let mut h: usize = 0;
-    while h < width {
-        t = one(form, name, state(width, Head::At(h)), t);
-        h += 1;
-    }
-    t
-}
-
-// A state with as many picks as it may have.
-fn state(width: usize, head: Head) -> State {
-    if width < 8 {
-        return State {
-            width,
-            picks: width,
-            head,
-        };
-    }
-    State {
+    let s = State {
         width,
-        picks: 8,
-        head,
+        picks: engine::lesser(width, 8),
+        head: small::head(i % 257),
+    };
+    if form == 0 {
+        return Outcome::Ran(converts(s, 0, &image(s), width));
     }
+    Outcome::Ran(converts(s, 2, &snapshot(s), 4))
 }
 
-fn one(form: Form, name: &[u8], s: State, t: Tally) -> Tally {
-    match form {
-        Form::Image => t.case(image(s), name, s, 0),
-        Form::Snapshot => t.case(snapshot(s), name, s, 0),
-    }
-}
-
-// Head to image to head, and image to head to image. The image is also made here.
-fn image(s: State) -> Part {
+// Zeros but for the head's byte.
+fn image(s: State) -> [u8; 256] {
     let h = s.head;
-    let mut known = [0u8; 256];
-    put(h, &mut known);
-    let mut written = [7u8; 256];
-    let mut again = [7u8; 256];
-    image_on(s, &known, &mut written, &mut again)
+    let mut image = [0u8; 256];
+    image[compare::station(h) % 256] = compare::headed(h) as u8;
+    image
 }
 
-fn image_on(s: State, known: &[u8], written: &mut [u8], again: &mut [u8]) -> Part {
-    let n = s.width;
-    if known.len() < n {
-        return Part::Bytes;
-    }
-    if written.len() < n {
-        return Part::Bytes;
-    }
-    if again.len() < n {
-        return Part::Bytes;
-    }
-    image_in(s, &known[..n], &mut written[..n], &mut again[..n])
+// The width less one, the picks, the head or 0, and 1 if there is a head.
+fn snapshot(s: State) -> [u8; 256] {
+    let h = s.head;
+    let mut snapshot = [0u8; 256];
+    snapshot[0] = ((s.width % 257 + 255) % 256) as u8;
+    snapshot[1] = (s.picks % 256) as u8;
+    snapshot[2] = (compare::station(h) % 256) as u8;
+    snapshot[3] = compare::headed(h) as u8;
+    snapshot
 }
 
-// Writes the head, and reads the image into a state with another head, which it writes again.
-fn image_in(s: State, known: &[u8], written: &mut [u8], again: &mut [u8]) -> Part {
+// Whether a state is written as the first of these bytes, and these are read as the state. An image is read into a state with
+// another head. The calls for a snapshot are 2 after those for an image.
+fn converts(s: State, form: usize, known: &[u8; 256], length: usize) -> bool
+    requires { ⌜ form ≤ 2 ⌝ }
+{
+    let lengths = Lengths {
+        read: length,
+        write: length,
+        nodes: 0,
+    };
     let other = State {
         width: s.width,
         picks: s.picks,
         head: Head::At(0),
     };
-    let a = OneHot(s).write(written);
-    let b = OneHot(other).read(written);
-    let read = b.state;
-    let c = OneHot(read).write(again);
-    let bytes = compare::same_bytes(written, known) & compare::same_bytes(again, known);
-    answers(s, a, b, c, bytes)
+    let mut written = [7u8; 256];
+    let mut nodes = [7u8; 1];
+    let write = engine::WRITE_ONE_HOT + form;
+    let read = engine::READ_ONE_HOT + form;
+    let a = engine::call(write, 0, s, lengths, known, &mut written, &mut nodes, 0);
+    let b = engine::call(read, 0, other, lengths, known, &mut written, &mut nodes, 0);
+    let same = compare::answer(a, 0, 0, 0, s) & compare::answer(b, 0, 0, 0, s);
+    same & begins(&written, known, length)
 }
 
-// The first part that differs of the answers that write a state, read it and write it again, or else the bytes.
-fn answers(s: State, a: Answer, b: Answer, c: Answer, bytes: bool) -> Part {
-    let wrote = compare::answer(a, 0, 0, 0, s);
-    let read = compare::first(wrote, compare::answer(b, 0, 0, 0, s));
-    let again = compare::first(read, compare::answer(c, 0, 0, 0, s));
-    compare::then(again, bytes, Part::Bytes)
-}
-
-// Sets the head's byte.
-fn put(h: Head, image: &mut [u8]) {
-    match h {
-        Head::None => {}
-        Head::At(station) => {
-            if station < image.len() {
-                image[station] = 1;
-            }
-        }
-    }
-}
-
-// State to snapshot to state, and snapshot to state to snapshot. The snapshot is also made here.
-fn snapshot(s: State) -> Part {
-    let h = s.head;
-    let known = bytes(less_one(s.width), low(s.picks), h);
-    let mut written = [7u8; 4];
-    let mut again = [7u8; 4];
-    let a = Snapshot(s).write(&mut written);
-    let b = Snapshot::read(&written);
-    let read = b.state;
-    let c = Snapshot(read).write(&mut again);
-    let bytes = compare::same_bytes(&written, &known) & compare::same_bytes(&again, &known);
-    answers(s, a, b, c, bytes)
-}
-
-// The four bytes: the width less one, the picks, the head or 0, and 1 if there is a head.
-fn bytes(width: u8, picks: u8, h: Head) -> [u8; 4] {
-    match h {
-        Head::None => [width, picks, 0, 0],
-        Head::At(station) => [width, picks, low(station), 1],
-    }
-}
-
-fn low(n: usize) -> u8 {
-    (n % 256) as u8
-}
-
-fn less_one(n: usize) -> u8 {
-    if n == 0 {
-        return 0;
-    }
-    low(n - 1)
+// Whether a buffer begins with the first of these bytes.
+fn begins(buffer: &[u8; 256], known: &[u8], length: usize) -> bool {
+    let end = engine::lesser(length, known.len());
+    compare::begins(buffer, &known[0..end])
 }

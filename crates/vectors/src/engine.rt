@@ -1,5 +1,5 @@
-// The four engines behind one call: the three of the round-robin rule by the dispatcher, and the token bus.
-ghost use Prim.Native.Nat.{_≤_};
+// The four engines by number, the three of the round-robin rule behind the dispatcher, and the calls by number.
+use crate::compare;
 use arbiter::Answer;
 use arbiter::State;
 use engines;
@@ -8,167 +8,143 @@ use one_hot::OneHot;
 use rules::Head;
 use snapshot::Snapshot;
 use token_bus::TokenBus;
+ghost use Prim.Native.Nat.{_≤_};
 
-pub enum Engine {
-    Scan,
-    Tree,
-    Thermometer,
-    Bus,
+pub(crate) const SCAN: usize = 0;
+
+pub(crate) const TREE: usize = 1;
+
+pub(crate) const THERMOMETER: usize = 2;
+
+pub(crate) const BUS: usize = 3;
+
+pub(crate) const OPEN: usize = 0;
+
+pub(crate) const OPEN_AT: usize = 1;
+
+pub(crate) const CYCLE: usize = 2;
+
+pub(crate) const READ_ONE_HOT: usize = 3;
+
+pub(crate) const WRITE_ONE_HOT: usize = 4;
+
+pub(crate) const READ_SNAPSHOT: usize = 5;
+
+pub(crate) const WRITE_SNAPSHOT: usize = 6;
+
+pub(crate) const ADD: usize = 7;
+
+// How many bytes of its buffers a call is given: of the one that it reads, of the one that it writes, and of the nodes.
+pub struct Lengths {
+    pub read: usize,
+    pub write: usize,
+    pub nodes: usize,
 }
 
-// Opens without a head.
-pub(crate) fn open(engine: Engine, width: usize, picks: usize) -> Answer {
-    match engine {
-        Engine::Scan => Dispatch::open(engines::Engine::Scan, width, picks),
-        Engine::Tree => Dispatch::open(engines::Engine::Tree, width, picks),
-        Engine::Thermometer => Dispatch::open(engines::Engine::Thermometer, width, picks),
-        Engine::Bus => TokenBus::open(width, picks),
-    }
-}
-
-// Opens with a head.
-pub(crate) fn open_at(engine: Engine, width: usize, picks: usize, head: usize) -> Answer {
-    match engine {
-        Engine::Scan => Dispatch::open_at(engines::Engine::Scan, width, picks, head),
-        Engine::Tree => Dispatch::open_at(engines::Engine::Tree, width, picks, head),
-        Engine::Thermometer => Dispatch::open_at(engines::Engine::Thermometer, width, picks, head),
-        Engine::Bus => TokenBus::open_at(width, picks, head),
-    }
-}
-
-// One cycle. The nodes are the tree's alone, and the acknowledge byte is the bus's.
-pub(crate) fn cycle(
-    engine: Engine,
-    s: State,
-    requests: &[u8],
-    grants: &mut [u8],
-    nodes: &mut [u8],
-    acknowledge: u8,
-) -> Answer {
-    match engine {
-        Engine::Scan => Dispatch(s).cycle(engines::Engine::Scan, requests, grants, nodes),
-        Engine::Tree => Dispatch(s).cycle(engines::Engine::Tree, requests, grants, nodes),
-        Engine::Thermometer => {
-            Dispatch(s).cycle(engines::Engine::Thermometer, requests, grants, nodes)
-        }
-        Engine::Bus => TokenBus(s).cycle(requests, grants, acknowledge),
+fn dispatched(e: usize) -> engines::Engine {
+    match e {
+        TREE => engines::Engine::Tree,
+        THERMOMETER => engines::Engine::Thermometer,
+        _ => engines::Engine::Scan,
     }
 }
 
-// One cycle on the first bytes of these buffers, `asked`, `granted` and `noded` of them. None is run where a buffer is shorter.
-pub(crate) fn cycle_on(
-    engine: Engine,
-    s: State,
-    requests: &[u8],
-    asked: usize,
-    grants: &mut [u8],
-    granted: usize,
-    nodes: &mut [u8],
-    noded: usize,
-    acknowledge: u8,
-) -> Answer {
-    if requests.len() < asked {
-        return unrun(s);
-    }
-    if grants.len() < granted {
-        return unrun(s);
-    }
-    if nodes.len() < noded {
-        return unrun(s);
-    }
-    cycle(
-        engine,
-        s,
-        &requests[..asked],
-        &mut grants[..granted],
-        &mut nodes[..noded],
-        acknowledge,
-    )
-}
-
-// Reading an image from the first bytes of a buffer.
-pub(crate) fn read_one_hot_on(s: State, image: &[u8], length: usize) -> Answer {
-    if image.len() < length {
-        return unrun(s);
-    }
-    OneHot(s).read(&image[..length])
-}
-
-// Writing an image to the first bytes of a buffer.
-pub(crate) fn write_one_hot_on(s: State, image: &mut [u8], length: usize) -> Answer {
-    if image.len() < length {
-        return unrun(s);
-    }
-    OneHot(s).write(&mut image[..length])
-}
-
-// Reading a snapshot from the first bytes of a buffer.
-pub(crate) fn read_snapshot_on(snapshot: &[u8], length: usize) -> Answer {
-    if snapshot.len() < length {
-        return unrun(State {
-            width: 0,
-            picks: 0,
-            head: Head::None,
-        });
-    }
-    Snapshot::read(&snapshot[..length])
-}
-
-// Writing a snapshot to the first bytes of a buffer.
-pub(crate) fn write_snapshot_on(s: State, snapshot: &mut [u8], length: usize) -> Answer {
-    if snapshot.len() < length {
-        return unrun(s);
-    }
-    Snapshot(s).write(&mut snapshot[..length])
-}
-
-// An answer that no call gives.
-fn unrun(s: State) -> Answer {
-    Answer {
-        number: 99,
-        place: 0,
-        count: 0,
-        state: s,
-    }
+// Whether it serves with such a head: the bus with none does not.
+pub(crate) fn takes(e: usize, h: Head) -> bool {
+    (e != BUS) | compare::headed(h)
 }
 
 // The most picks that it takes for a width, and 0 where it takes no such width.
-pub(crate) fn most_picks(engine: Engine, width: usize) -> usize
+pub(crate) fn most_picks(e: usize, width: usize) -> usize
     ensures { λ r. ⌜ r ≤ 8 ⌝ }
 {
-    match engine {
-        Engine::Scan => lesser(width, 8),
-        Engine::Tree => tree_picks(width),
-        Engine::Thermometer => lesser(width, 8),
-        Engine::Bus => lesser(width, 1),
+    match e {
+        TREE => match width {
+            2 | 4 | 8 | 16 => 1,
+            32 | 64 | 128 | 256 => 1,
+            _ => 0,
+        },
+        BUS => lesser(width, 1),
+        _ => lesser(width, 8),
     }
 }
 
-// Whether it serves without a head.
-pub(crate) fn takes_none(engine: Engine) -> bool {
-    match engine {
-        Engine::Scan => true,
-        Engine::Tree => true,
-        Engine::Thermometer => true,
-        Engine::Bus => false,
-    }
-}
-
-fn tree_picks(width: usize) -> usize
-    ensures { λ r. ⌜ r ≤ 8 ⌝ }
-{
-    match width {
-        2 | 4 | 8 | 16 => 1,
-        32 | 64 | 128 | 256 => 1,
-        _ => 0,
-    }
-}
-
-fn lesser(a: usize, b: usize) -> usize
+pub(crate) fn lesser(a: usize, b: usize) -> usize
+    ensures { λ r. ⌜ r ≤ a ⌝ }
     ensures { λ r. ⌜ r ≤ b ⌝ }
 {
     if a < b {
         return a;
     }
     b
+}
+
+// Opens with a state's width and picks, and with its head if it has one.
+pub(crate) fn open(e: usize, s: State) -> Answer {
+    let h = s.head;
+    match h {
+        Head::None => open_without(e, s.width, s.picks),
+        Head::At(station) => open_at(e, s.width, s.picks, station),
+    }
+}
+
+fn open_without(e: usize, width: usize, picks: usize) -> Answer {
+    if e == BUS {
+        return TokenBus::open(width, picks);
+    }
+    Dispatch::open(dispatched(e), width, picks)
+}
+
+fn open_at(e: usize, width: usize, picks: usize, head: usize) -> Answer {
+    if e == BUS {
+        return TokenBus::open_at(width, picks, head);
+    }
+    Dispatch::open_at(dispatched(e), width, picks, head)
+}
+
+// A call on the first bytes of these buffers: a cycle of an engine, or a conversion.
+pub(crate) fn call(
+    call: usize,
+    e: usize,
+    s: State,
+    lengths: Lengths,
+    read: &[u8],
+    write: &mut [u8],
+    nodes: &mut [u8],
+    acknowledge: u8,
+) -> Answer {
+    let asked = lesser(lengths.read, read.len());
+    let granted = lesser(lengths.write, write.len());
+    match call {
+        READ_ONE_HOT => OneHot(s).read(&read[0..asked]),
+        WRITE_ONE_HOT => OneHot(s).write(&mut write[0..granted]),
+        READ_SNAPSHOT => Snapshot::read(&read[0..asked]),
+        WRITE_SNAPSHOT => Snapshot(s).write(&mut write[0..granted]),
+        _ => cycle(
+            e,
+            s,
+            &read[0..asked],
+            &mut write[0..granted],
+            nodes,
+            lengths.nodes,
+            acknowledge,
+        ),
+    }
+}
+
+// One cycle. The nodes are the tree's alone, and the acknowledge byte is the bus's.
+fn cycle(
+    e: usize,
+    s: State,
+    requests: &[u8],
+    grants: &mut [u8],
+    nodes: &mut [u8],
+    length: usize,
+    acknowledge: u8,
+) -> Answer {
+    if e == BUS {
+        return TokenBus(s).cycle(requests, grants, acknowledge);
+    }
+    let end = lesser(length, nodes.len());
+    Dispatch(s).cycle(dispatched(e), requests, grants, &mut nodes[0..end])
 }

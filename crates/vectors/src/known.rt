@@ -1,98 +1,114 @@
-// The known turns of 01 that are not starred.
+// The known turns of 01 that are not starred, and 000's worked example: openings and node buffers. The known sums are in `sums`.
 use crate::compare;
 use crate::engine;
-use crate::engine::Engine;
 use crate::model;
-use crate::report::Part;
-use crate::report::Tally;
+use crate::report::Outcome;
+use crate::small;
 use crate::sums;
 use arbiter::State;
 use rules::Head;
-use tree::Tree;
 
-pub(crate) fn all() -> Tally {
-    let nodes = node_buffer(Tally::new());
-    let scans = openings(Engine::Scan, b"scan", nodes);
-    let trees = openings(Engine::Tree, b"tree", scans);
-    let thermometers = openings(Engine::Thermometer, b"thermometer", trees);
-    let buses = openings(Engine::Bus, b"bus", thermometers);
-    let ones = opening(Engine::Tree, b"tree", 1, 1, 2, buses);
-    let sixes = opening(Engine::Tree, b"tree", 6, 1, 2, ones);
-    adder(sixes)
+// Widths 0, 256 and 257, nine picks, and three of two stations; then the two widths that only the tree refuses, by 2.
+const WIDTHS: [usize; 7] = [0, 256, 257, 16, 2, 1, 6];
+
+const PICKS: [usize; 7] = [1, 1, 1, 9, 3, 1, 1];
+
+const NUMBERS: [usize; 7] = [1, 0, 1, 3, 3, 0, 0];
+
+// 7 openings, without a head and at head 0, 4 engines.
+const OPENINGS: usize = 7 * 2 * 4;
+
+// The openings, then a node buffer, then 4 sums.
+pub(crate) const CASES: usize = OPENINGS + 1 + 4;
+
+pub(crate) fn case(i: usize) -> Outcome {
+    if i < OPENINGS {
+        return opening(i);
+    }
+    if i == OPENINGS {
+        return node_buffer(EXAMPLE);
+    }
+    sums::known(sums::TRUTH_TABLE + i % 4)
 }
 
-// The tree of 4 stations with head 1, of which 0 asks.
-fn node_buffer(t: Tally) -> Tally {
-    let h = Head::At(1);
+fn opening(i: usize) -> Outcome {
+    let h = small::head(i / 7 % 2);
+    let e = i / 14;
+    if engine::takes(e, h) {
+        let s = State {
+            width: WIDTHS[i % 7],
+            picks: PICKS[i % 7],
+            head: h,
+        };
+        return Outcome::Ran(compare::opening(e, s, number(e, i % 7)));
+    }
+    Outcome::Skipped
+}
+
+fn number(e: usize, row: usize) -> usize {
+    if (e == engine::TREE) & (4 < row) {
+        return 2;
+    }
+    NUMBERS[row % 7]
+}
+
+// A cycle of the tree with 4 stations, one pick and a head: who asks, the node buffer, and the next head.
+struct Turn {
+    head: usize,
+    requests: [u8; 4],
+    nodes: [u8; 8],
+    next: usize,
+}
+
+// The cycles of 000's worked example, after which comes one of 01.
+pub(crate) const EXAMPLE: usize = 3;
+
+// In the example stations 0, 2 and 3 ask in each cycle. They are granted in turn.
+fn known_turn(i: usize) -> Turn {
+    match i {
+        0 => Turn {
+            head: 0,
+            requests: [1, 0, 1, 1],
+            nodes: [0, 3, 3, 1, 3, 0, 1, 1],
+            next: 1,
+        },
+        1 => Turn {
+            head: 1,
+            requests: [1, 0, 1, 1],
+            nodes: [0, 3, 2, 1, 1, 2, 1, 1],
+            next: 3,
+        },
+        2 => Turn {
+            head: 3,
+            requests: [1, 0, 1, 1],
+            nodes: [0, 3, 1, 3, 1, 0, 1, 3],
+            next: 0,
+        },
+        _ => Turn {
+            head: 1,
+            requests: [1, 0, 0, 0],
+            nodes: [0, 2, 2, 0, 1, 2, 0, 0],
+            next: 1,
+        },
+    }
+}
+
+pub(crate) fn node_buffer(i: usize) -> Outcome {
+    let turn = known_turn(i);
     let s = State {
         width: 4,
         picks: 1,
-        head: h,
+        head: Head::At(turn.head),
     };
-    let requests = [1u8, 0, 0, 0];
-    let known = [0u8, 2, 2, 0, 1, 2, 0, 0];
-    let mut grants = [7u8; 4];
-    let mut nodes = [7u8; 8];
-    let a = Tree(s).cycle(&requests, &mut grants, &mut nodes);
-    let part = compare::answer(a, 0, 0, 1, s);
-    let granted = compare::then(
-        part,
-        compare::same_bytes(&grants, &[1u8, 0, 0, 0]),
-        Part::Bytes,
-    );
-    let noded = compare::then(granted, compare::same_bytes(&nodes, &known), Part::Nodes);
-    let modelled = compare::then(
-        noded,
-        model::same_nodes(4, h, &requests, &known),
-        Part::Nodes,
-    );
-    t.case(modelled, b"tree", s, 0)
+    let requests = turn.requests;
+    let known = turn.nodes;
+    Outcome::Ran(turns(s, &requests, &known, turn.next))
 }
 
-// Widths 0, 256 and 257, nine picks, and three of two stations.
-fn openings(e: Engine, name: &[u8], t: Tally) -> Tally {
-    let none = opening(e, name, 0, 1, 1, t);
-    let most = opening(e, name, 256, 1, 0, none);
-    let over = opening(e, name, 257, 1, 1, most);
-    let nine = opening(e, name, 16, 9, 3, over);
-    opening(e, name, 2, 3, 3, nine)
-}
-
-// Opens at head 0, and without a head if the engine takes none.
-fn opening(e: Engine, name: &[u8], width: usize, picks: usize, number: usize, t: Tally) -> Tally {
-    let at = State {
-        width,
-        picks,
-        head: Head::At(0),
-    };
-    let a = engine::open_at(e, width, picks, 0);
-    let headed = t.case(
-        compare::answer(a, number, 0, 0, compare::opened(number, at)),
-        name,
-        at,
-        number,
-    );
-    if engine::takes_none(e) {
-        let without = State {
-            width,
-            picks,
-            head: Head::None,
-        };
-        let b = engine::open(e, width, picks);
-        return headed.case(
-            compare::answer(b, number, 0, 0, compare::opened(number, without)),
-            name,
-            without,
-            number,
-        );
-    }
-    headed
-}
-
-// The three sums with 2 picks.
-fn adder(t: Tally) -> Tally {
-    let sums = sums::known(2, 0b01, 0b01, 0, 0b11, t);
-    let full = sums::known(2, 0b11, 0b01, 0, 0b11, sums);
-    let left = sums::known(2, 0b10, 0b01, 13, 0, full);
-    sums::known(2, 0b01, 0b10, 13, 0, left)
+// Whether the tree turns as the model does, and the model as is known.
+fn turns(s: State, requests: &[u8; 4], known: &[u8; 8], next: usize) -> bool {
+    let cycle = model::run(engine::TREE, s, requests, 0);
+    let state = cycle.state;
+    let h = state.head;
+    cycle.same & model::same_nodes(s, requests, known) & (compare::station(h) == next)
 }

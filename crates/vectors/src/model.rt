@@ -1,153 +1,78 @@
 // A served cycle against the model.
 use crate::compare;
 use crate::engine;
-use crate::engine::Engine;
-use crate::report::Part;
+use crate::engine::Lengths;
 use arbiter::Answer;
 use arbiter::State;
 use rules::Head;
+ghost use Prim.Native.Nat.{_≤_};
 
 // The widest that is run.
 const WIDEST: usize = 256;
 
-// What a cycle came to: the first part that differs from the model, and the state it left.
-pub struct Outcome {
-    pub part: Part,
+// What a cycle came to: whether it is as the model says, and the state it left.
+pub struct Cycle {
+    pub same: bool,
     pub state: State,
 }
 
 // Runs one cycle that is to be served, on the first of these requests, and compares it.
-pub(crate) fn run(e: Engine, s: State, requests: &[u8], acknowledge: u8) -> Outcome {
+pub(crate) fn run(e: usize, s: State, requests: &[u8], acknowledge: u8) -> Cycle {
+    let n = engine::lesser(s.width, WIDEST);
+    let lengths = Lengths {
+        read: n,
+        write: n,
+        nodes: 2 * n,
+    };
     let mut grants = [7u8; 256];
     let mut nodes = [7u8; 512];
-    run_on(e, s, requests, &mut grants, &mut nodes, acknowledge)
-}
-
-// The same on the first bytes of these buffers.
-fn run_on(
-    e: Engine,
-    s: State,
-    requests: &[u8],
-    grants: &mut [u8],
-    nodes: &mut [u8],
-    acknowledge: u8,
-) -> Outcome {
-    let n = s.width;
-    if WIDEST < n {
-        return unrun(s);
-    }
-    if requests.len() < n {
-        return unrun(s);
-    }
-    if grants.len() < n {
-        return unrun(s);
-    }
-    let end = 2 * n;
-    if nodes.len() < end {
-        return unrun(s);
-    }
-    run_in(
+    let a = engine::call(
+        engine::CYCLE,
         e,
         s,
-        &requests[..n],
-        &mut grants[..n],
-        &mut nodes[..end],
+        lengths,
+        requests,
+        &mut grants,
+        &mut nodes,
         acknowledge,
-    )
-}
-
-// The same in buffers of the right length.
-fn run_in(
-    e: Engine,
-    s: State,
-    requests: &[u8],
-    grants: &mut [u8],
-    nodes: &mut [u8],
-    acknowledge: u8,
-) -> Outcome {
-    let a = engine::cycle(e, s, requests, grants, nodes, acknowledge);
-    let part = differs(e, s, requests, grants, nodes, acknowledge, a);
+    );
     let state = a.state;
-    Outcome { part, state }
-}
-
-// What is told of a cycle for which a buffer is too short: that it differs.
-fn unrun(s: State) -> Outcome {
-    Outcome {
-        part: Part::State,
-        state: s,
+    let noded = (e != engine::TREE) | same_nodes(s, requests, &nodes);
+    Cycle {
+        same: answered(e, s, requests, acknowledge, a) & same_grants(s, requests, &grants) & noded,
+        state,
     }
 }
 
-// Whether there is a head.
-pub(crate) fn headed(h: Head) -> bool {
-    match h {
-        Head::None => false,
-        Head::At(_) => true,
-    }
-}
-
-// The station of the head, 0 where there is none.
-pub(crate) fn station(h: Head) -> usize {
-    match h {
-        Head::None => 0,
-        Head::At(station) => station,
-    }
-}
-
-// The first part in which a cycle differs from the model's.
-fn differs(
-    e: Engine,
-    s: State,
-    requests: &[u8],
-    grants: &[u8],
-    nodes: &[u8],
-    acknowledge: u8,
-    a: Answer,
-) -> Part {
-    let h = s.head;
+// Whether a cycle answers as the model does.
+fn answered(e: usize, s: State, requests: &[u8], acknowledge: u8, a: Answer) -> bool {
     let count = reference::count(s.width, s.picks, requests);
     let next = State {
         width: s.width,
         picks: s.picks,
         head: Head::At(next_head(e, s, requests, acknowledge)),
     };
-    let part = compare::answer(a, 0, 0, count, next);
-    let granted = compare::then(part, same_grants(s, requests, grants), Part::Bytes);
-    match e {
-        Engine::Scan => granted,
-        Engine::Tree => compare::then(
-            granted,
-            same_nodes(s.width, h, requests, nodes),
-            Part::Nodes,
-        ),
-        Engine::Thermometer => granted,
-        Engine::Bus => granted,
-    }
+    compare::answer(a, 0, 0, count, next)
 }
 
 // Where the model leaves the head or the token.
-fn next_head(e: Engine, s: State, requests: &[u8], acknowledge: u8) -> usize {
+fn next_head(e: usize, s: State, requests: &[u8], acknowledge: u8) -> usize {
     let h = s.head;
-    match e {
-        Engine::Scan => reference::next(s.width, s.picks, headed(h), station(h), requests),
-        Engine::Tree => reference::next(s.width, s.picks, headed(h), station(h), requests),
-        Engine::Thermometer => reference::next(s.width, s.picks, headed(h), station(h), requests),
-        Engine::Bus => reference::next_token(s.width, station(h), requests, acknowledge == 1),
+    let station = compare::station(h);
+    if e == engine::BUS {
+        return reference::next_token(s.width, station, requests, acknowledge == 1);
     }
+    reference::next(s.width, s.picks, compare::headed(h), station, requests)
 }
 
-// Whether the grants are the model's.
+// Whether the first grants are the model's.
 fn same_grants(s: State, requests: &[u8], grants: &[u8]) -> bool {
     let h = s.head;
-    let start = station(h);
-    if grants.len() != s.width {
-        return false;
-    }
+    let start = compare::station(h);
+    let width = engine::lesser(s.width, grants.len());
     let mut i: usize = 0;
-    while i < grants.len() {
-        let granted = reference::granted(s.width, s.picks, start, requests, i);
-        if grants[i] != granted as u8 {
+    while i < width {
+        if grants[i] != reference::granted(s.width, s.picks, start, requests, i) as u8 {
             return false;
         }
         i += 1;
@@ -155,35 +80,54 @@ fn same_grants(s: State, requests: &[u8], grants: &[u8]) -> bool {
     true
 }
 
-// Whether every node has the model's value: byte 0, then level by level from the root, whose stations are all, each node of a
-// level with half as many as one of the level above.
-pub(crate) fn same_nodes(width: usize, h: Head, requests: &[u8], nodes: &[u8]) -> bool {
-    if WIDEST < width {
-        return false;
-    }
-    if nodes.len() != 2 * width {
-        return false;
-    }
-    let mut from: usize = 0;
-    let mut size: usize = width;
-    let mut u: usize = 1;
-    while u < nodes.len() {
-        if nodes[u] != reference::node(headed(h), station(h), requests, from, from + size) {
-            return false;
-        }
-        from = from + size;
-        if width <= from {
-            from = 0;
-            size = size / 2;
-        }
-        u += 1;
-    }
-    first_is_zero(nodes)
+// Stations that a node is over.
+struct Below {
+    from: usize,
+    size: usize,
 }
 
-fn first_is_zero(nodes: &[u8]) -> bool {
-    if nodes.len() == 0 {
-        return false;
+// Whether the first nodes have the model's values: byte 0 is 0, then level by level from the root.
+pub(crate) fn same_nodes(s: State, requests: &[u8], nodes: &[u8]) -> bool {
+    let h = s.head;
+    let width = engine::lesser(s.width, WIDEST);
+    let end = engine::lesser(2 * width, nodes.len());
+    let mut below = Below {
+        from: 0,
+        size: width,
+    };
+    let mut u: usize = 1;
+    while u < end {
+        if nodes[u] != node(h, requests, below) {
+            return false;
+        }
+        below = next(width, below);
+        u += 1;
     }
-    nodes[0] == 0
+    compare::begins(nodes, &[0u8])
+}
+
+fn node(h: Head, requests: &[u8], below: Below) -> u8 {
+    let to = below.from % 512 + below.size % 512;
+    reference::node(
+        compare::headed(h),
+        compare::station(h),
+        requests,
+        below.from,
+        to,
+    )
+}
+
+// What the next node is over: the next stations, as many, and after the last half as many from the first on.
+fn next(width: usize, below: Below) -> Below {
+    let from = below.from % 512 + below.size % 512;
+    if from < width {
+        return Below {
+            from,
+            size: below.size,
+        };
+    }
+    Below {
+        from: 0,
+        size: below.size / 2,
+    }
 }

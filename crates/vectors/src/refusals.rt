@@ -3,11 +3,12 @@
 // by the first.
 use crate::compare;
 use crate::engine;
-use crate::engine::Engine;
-use crate::report::Part;
-use crate::report::Tally;
+use crate::engine::Lengths;
+use crate::report::Outcome;
+use crate::small;
 use arbiter::State;
 use rules::Head;
+use snapshot::Snapshot;
 use thermometer::adder;
 ghost use mathlib.Core.Path.{_≡_};
 ghost use Prim.Native.Nat.{_≤_};
@@ -35,378 +36,245 @@ const SECOND_ONE: usize = 1024;
 
 const CODE: usize = 8192;
 
+const STATE: usize = WIDTH | PICKS | HEAD;
+
 // The byte with which buffers are filled that a refused call must leave alone.
 const KEPT: u8 = 7;
 
-pub enum Call {
-    Open,
-    OpenAt,
-    Cycle,
-    ReadOneHot,
-    WriteOneHot,
-    ReadSnapshot,
-    WriteSnapshot,
-    Add,
+// 3 variants, 16,384 sets of faults, 4 engines. The calls that are no engine's are made with the first of these.
+pub(crate) const CASES: usize = 3 * 16384 * 4;
+
+// A set of faults, in one variant.
+struct Faults {
+    set: usize,
+    variant: usize,
 }
 
-// Every set of faults of a call, in each variant. The engine counts for openings and cycles only.
-pub(crate) fn all(call: Call, e: Engine, name: &[u8], t: Tally) -> Tally {
-    let mut t = t;
-    let mut faults: usize = 1;
-    while faults < 16384 {
-        if (faults & asked(call, e)) == faults {
-            t = variants(call, e, name, faults, t);
-        }
-        faults += 1;
+impl Faults {
+    fn has(self, fault: usize) -> bool {
+        (self.set & fault) != 0
     }
-    t
+
+    // The right value or, by a fault, the wrong one of the variant.
+    fn value(self, fault: usize, right: usize, wrong: [usize; 3]) -> usize {
+        if (self.set & fault) == 0 {
+            return right;
+        }
+        let variant = self.variant % 3;
+        wrong[variant]
+    }
+
+    fn byte(self, fault: usize, right: usize, wrong: [usize; 3]) -> u8 {
+        (self.value(fault, right, wrong) % 256) as u8
+    }
+
+    // A length: by a fault one more, one less or 0.
+    fn length(self, fault: usize, right: usize) -> usize
+        requires { ⌜ right ≤ 512 ⌝ }
+    {
+        self.value(fault, right, [right + 1, small::last(right), 0])
+    }
+
+    // The first question, in order of number, that refuses.
+    fn first(self) -> usize {
+        (usize::trailing_zeros(self.set) % 64) as usize
+    }
+}
+
+pub(crate) fn case(call: usize, i: usize) -> Outcome {
+    let f = Faults {
+        set: i / 3 % 16384,
+        variant: i % 3,
+    };
+    let e = i / 49152;
+    let known = (f.set & (asked(call) | engine_asks(call, e))) == f.set;
+    if (f.set == 0) | !known | ((engine::CYCLE < call) & (0 < e)) {
+        return Outcome::Skipped;
+    }
+    Outcome::Ran(refuses(call, e, f, state(e, f)))
 }
 
 // The questions that a call asks.
-fn asked(call: Call, e: Engine) -> usize {
+fn asked(call: usize) -> usize {
     match call {
-        Call::Open => WIDTH | PICKS | tree_width(e) | token(e),
-        Call::OpenAt => WIDTH | PICKS | HEAD | tree_width(e),
-        Call::Cycle => WIDTH | PICKS | HEAD | READ | WRITE | BITS | engine_asks(e),
-        Call::ReadOneHot => WIDTH | PICKS | HEAD | READ | BITS | SECOND_ONE,
-        Call::WriteOneHot => WIDTH | PICKS | HEAD | WRITE,
-        Call::ReadSnapshot => READ | BITS | PICKS | HEAD,
-        Call::WriteSnapshot => WIDTH | PICKS | HEAD | WRITE,
-        Call::Add => PICKS | CODE,
+        engine::OPEN => WIDTH | PICKS,
+        engine::OPEN_AT => STATE,
+        engine::CYCLE => STATE | READ | WRITE | BITS,
+        engine::READ_ONE_HOT => STATE | READ | BITS | SECOND_ONE,
+        engine::READ_SNAPSHOT => READ | BITS | PICKS | HEAD,
+        engine::ADD => PICKS | CODE,
+        _ => STATE | WRITE,
     }
 }
 
-fn tree_width(e: Engine) -> usize {
-    match e {
-        Engine::Scan => 0,
-        Engine::Tree => TREE_WIDTH,
-        Engine::Thermometer => 0,
-        Engine::Bus => 0,
-    }
-}
-
-// Opening without a head the bus asks 4.
-fn token(e: Engine) -> usize {
-    if engine::takes_none(e) {
-        return 0;
-    }
-    HEAD
-}
-
-fn engine_asks(e: Engine) -> usize {
-    match e {
-        Engine::Scan => 0,
-        Engine::Tree => TREE_WIDTH | NODES,
-        Engine::Thermometer => 0,
-        Engine::Bus => ACKNOWLEDGE,
-    }
-}
-
-fn variants(call: Call, e: Engine, name: &[u8], faults: usize, t: Tally) -> Tally {
-    let mut t = t;
-    let mut v: usize = 0;
-    while v < 3 {
-        t = one(call, e, name, faults, v, t);
-        v += 1;
-    }
-    t
-}
-
-// The number of the case is 10 times the set of faults, and the variant.
-fn one(call: Call, e: Engine, name: &[u8], faults: usize, v: usize, t: Tally) -> Tally {
-    let s = state(e, faults, v);
-    let part = match call {
-        Call::Open => open(e, faults, s),
-        Call::OpenAt => open_at(e, faults, s),
-        Call::Cycle => cycle(e, faults, v, s),
-        Call::ReadOneHot => read_one_hot(faults, v, s),
-        Call::WriteOneHot => write_one_hot(faults, v, s),
-        Call::ReadSnapshot => read_snapshot(faults, v),
-        Call::WriteSnapshot => write_snapshot(faults, v, s),
-        Call::Add => add(faults, v),
-    };
-    t.case(part, name, s, 10 * (faults % 16384) + v % 10)
-}
-
-// The first question, in order of number, that refuses.
-fn first(faults: usize) -> usize {
-    usize::trailing_zeros(faults) as usize
-}
-
-fn has(faults: usize, fault: usize) -> bool {
-    (faults & fault) != 0
-}
-
-// One of three, by the variant.
-fn choice(v: usize, a: usize, b: usize, c: usize) -> usize {
-    match v {
-        0 => a,
-        1 => b,
-        _ => c,
-    }
-}
-
-// A state of 4 stations with these faults.
-fn state(e: Engine, faults: usize, v: usize) -> State {
-    let width = width(faults, v);
-    State {
-        width,
-        picks: picks(e, faults, v),
-        head: head(e, faults, v, width),
-    }
-}
-
-fn width(faults: usize, v: usize) -> usize {
-    if has(faults, WIDTH) {
-        return choice(v, 0, 257, 1000);
-    }
-    if has(faults, TREE_WIDTH) {
-        return choice(v, 1, 6, 255);
-    }
-    4
-}
-
-// The last is more than 4 stations allow, and more than an engine with one pick allows.
-fn picks(e: Engine, faults: usize, v: usize) -> usize {
-    if has(faults, PICKS) {
-        return match e {
-            Engine::Scan => choice(v, 0, 9, 5),
-            Engine::Tree => choice(v, 0, 9, 2),
-            Engine::Thermometer => choice(v, 0, 9, 5),
-            Engine::Bus => choice(v, 0, 9, 2),
-        };
-    }
-    1
-}
-
-// The last is no token where the engine wants one.
-fn head(e: Engine, faults: usize, v: usize, width: usize) -> Head {
-    if !has(faults, HEAD) {
-        return Head::At(0);
-    }
-    if (v == 2) & !engine::takes_none(e) {
-        return Head::None;
-    }
-    Head::At(choice(v, width, 1000000, 1000))
-}
-
-// An opening without a head, which the bus refuses by 4 if by nothing before.
-fn open(e: Engine, faults: usize, s: State) -> Part {
-    let a = engine::open(e, s.width, s.picks);
-    if engine::takes_none(e) {
-        return compare::answer(a, first(faults), 0, 0, compare::opened(1, s));
-    }
-    compare::answer(a, first(faults | HEAD), 0, 0, compare::opened(1, s))
-}
-
-fn open_at(e: Engine, faults: usize, s: State) -> Part {
-    let h = s.head;
-    let Head::At(station) = h else {
-        return open(e, faults, s);
-    };
-    let a = engine::open_at(e, s.width, s.picks, station);
-    compare::answer(a, first(faults), 0, 0, compare::opened(1, s))
-}
-
-fn cycle(e: Engine, faults: usize, v: usize, s: State) -> Part {
-    let n = stations(s.width);
-    let mut requests = filled(1);
-    spoil(faults, v, n, &mut requests);
-    let mut grants = filled(KEPT);
-    let mut nodes = filled(KEPT);
-    let a = engine::cycle_on(
-        e,
-        s,
-        &requests,
-        length_of(n, has(faults, READ), v),
-        &mut grants,
-        length_of(n, has(faults, WRITE), v),
-        &mut nodes,
-        length_of(2 * n, has(faults, NODES), v),
-        acknowledge(faults, v),
-    );
-    let kept = compare::all_are(&grants, KEPT) & compare::all_are(&nodes, KEPT);
-    let part = compare::answer(a, first(faults), place(faults, v, n), 0, s);
-    compare::then(part, kept, Part::Bytes)
-}
-
-fn read_one_hot(faults: usize, v: usize, s: State) -> Part {
-    let n = stations(s.width);
-    let mut image = filled(0);
-    image[0] = 1;
-    set_second(faults, v, n, &mut image);
-    spoil(faults, v, n, &mut image);
-    let a = engine::read_one_hot_on(s, &image, length_of(n, has(faults, READ), v));
-    compare::answer(a, first(faults), place(faults, v, n), 0, s)
-}
-
-fn write_one_hot(faults: usize, v: usize, s: State) -> Part {
-    let n = stations(s.width);
-    let mut image = filled(KEPT);
-    let a = engine::write_one_hot_on(s, &mut image, length_of(n, has(faults, WRITE), v));
-    let part = compare::answer(a, first(faults), 0, 0, s);
-    compare::then(part, compare::all_are(&image, KEPT), Part::Bytes)
-}
-
-fn write_snapshot(faults: usize, v: usize, s: State) -> Part {
-    let mut snapshot = filled(KEPT);
-    let a = engine::write_snapshot_on(s, &mut snapshot, length_of(4, has(faults, WRITE), v));
-    let part = compare::answer(a, first(faults), 0, 0, s);
-    compare::then(part, compare::all_are(&snapshot, KEPT), Part::Bytes)
-}
-
-// Reading a snapshot asks 5, 8, 3 and 4, in this order.
-fn read_snapshot(faults: usize, v: usize) -> Part {
-    let mut snapshot = filled(0);
-    snapshot[0] = 3;
-    snapshot[1] = snapshot_picks(faults, v);
-    snapshot[2] = snapshot_head(faults, v);
-    snapshot[3] = snapshot_mark(faults, v);
-    let a = engine::read_snapshot_on(&snapshot, length_of(4, has(faults, READ), v));
-    let nothing = State {
-        width: 0,
-        picks: 0,
-        head: Head::None,
-    };
-    if has(faults, READ) {
-        return compare::answer(a, 5, 0, 0, nothing);
-    }
-    if has(faults, BITS) {
-        return compare::answer(a, 8, 3, 0, nothing);
-    }
-    compare::answer(a, first(faults), 0, 0, nothing)
-}
-
-fn snapshot_picks(faults: usize, v: usize) -> u8 {
-    if has(faults, PICKS) {
-        return byte(v, 0, 9, 5);
-    }
-    2
-}
-
-// A head past the end twice, and then one that is marked as none.
-fn snapshot_head(faults: usize, v: usize) -> u8 {
-    if has(faults, HEAD) {
-        return byte(v, 4, 255, 1);
-    }
-    3
-}
-
-fn snapshot_mark(faults: usize, v: usize) -> u8 {
-    if has(faults, BITS) {
-        return byte(v, 2, 255, 3);
-    }
-    if has(faults, HEAD) {
-        return byte(v, 1, 1, 0);
-    }
-    1
-}
-
-// With 3 picks: a left and a right byte with a gap, and a code that is too long.
-fn add(faults: usize, v: usize) -> Part {
-    if has(faults, CODE) {
-        let a = adder::add(adder_picks(faults, v), byte(v, 2, 1, 15), byte(v, 1, 2, 1));
-        return compare::sum(a, first(faults), 0);
-    }
-    compare::sum(adder::add(adder_picks(faults, v), 1, 1), first(faults), 0)
-}
-
-fn adder_picks(faults: usize, v: usize) -> usize {
-    if has(faults, PICKS) {
-        return choice(v, 0, 9, 1000);
-    }
-    3
-}
-
-fn byte(v: usize, a: u8, b: u8, c: u8) -> u8 {
-    match v {
-        0 => a,
-        1 => b,
-        _ => c,
-    }
-}
-
-fn filled(byte: u8) -> [u8; 512]
-    ensures { λ r. ⌜ 512 ≡ length r ⌝ }
-{
-    [byte; 512]
-}
-
-// How many bytes go with a width: as many, or 4 where it is too large.
-fn stations(width: usize) -> usize
-    ensures { λ r. ⌜ r ≤ 256 ⌝ }
-{
-    if width <= 256 {
-        return width;
-    }
-    4
-}
-
-// A length that is right or, by a fault, one more, one less or 0.
-fn length_of(right: usize, fault: bool, v: usize) -> usize {
-    if !fault {
-        return right;
-    }
-    if right == 0 {
-        return 1;
-    }
-    if 1000 < right {
-        return 1;
-    }
-    choice(v, right + 1, right - 1, 0)
-}
-
-fn acknowledge(faults: usize, v: usize) -> u8 {
-    if has(faults, ACKNOWLEDGE) {
-        return byte(v, 2, 255, 3);
-    }
-    1
-}
-
-// The place that is refused: the first byte that is not a bit, or the second 1.
-fn place(faults: usize, v: usize, n: usize) -> usize {
-    match first(faults) {
-        8 => spoilt(v, n),
-        10 => second(v, n),
+// The questions that only the tree asks, and only the bus.
+fn engine_asks(call: usize, e: usize) -> usize {
+    match 4 * (call % 8) + e % 4 {
+        1 => TREE_WIDTH,
+        3 => HEAD,
+        5 => TREE_WIDTH,
+        9 => TREE_WIDTH | NODES,
+        11 => ACKNOWLEDGE,
         _ => 0,
     }
 }
 
-// Where the first byte stands that is not a bit.
-fn spoilt(v: usize, n: usize) -> usize {
-    choice(v, 0, last(n), n / 2)
-}
-
-// Where the second 1 stands. The first is at 0.
-fn second(v: usize, n: usize) -> usize {
-    choice(v, 1, last(n), n / 2)
-}
-
-fn last(n: usize) -> usize {
-    if n == 0 {
-        return 0;
-    }
-    n - 1
-}
-
-// Sets the byte that is not a bit, in the third variant another after it.
-fn spoil(faults: usize, v: usize, n: usize, bytes: &mut [u8]) {
-    if has(faults, BITS) {
-        set(last(n), byte(v, 1, 255, 9), bytes);
-        set(spoilt(v, n), byte(v, 2, 255, 2), bytes);
+// Whether a call refuses as it should.
+fn refuses(call: usize, e: usize, f: Faults, s: State) -> bool {
+    match call {
+        engine::OPEN => open(e, f, s),
+        engine::OPEN_AT => compare::opening(e, s, f.first()),
+        engine::READ_SNAPSHOT => read_snapshot(f),
+        engine::ADD => add(f),
+        engine::WRITE_SNAPSHOT => on_buffers(call, e, f, s, 4),
+        _ => on_buffers(call, e, f, s, stations(s.width)),
     }
 }
 
-// Sets the second 1, in the third variant another after it.
-fn set_second(faults: usize, v: usize, n: usize, bytes: &mut [u8]) {
-    if has(faults, SECOND_ONE) {
-        set(last(n), byte(v, 0, 1, 1), bytes);
-        set(second(v, n), 1, bytes);
+// A state of 4 stations with these faults. The last picks are one more than the engine takes for 4 stations.
+fn state(e: usize, f: Faults) -> State {
+    let tree_width = f.value(TREE_WIDTH, 4, [1, 6, 255]);
+    let width = f.value(WIDTH, tree_width, [0, 257, 1000]);
+    let picks = f.value(PICKS, 1, [0, 9, engine::most_picks(e, 4) + 1]);
+    State {
+        width,
+        picks,
+        head: head(e, f, width),
     }
 }
 
-fn set(place: usize, byte: u8, bytes: &mut [u8]) {
-    if place < bytes.len() {
-        bytes[place] = byte;
+// The last is no token where the engine wants one.
+fn head(e: usize, f: Faults, width: usize) -> Head {
+    if f.has(HEAD) & (f.variant == 2) & (e == engine::BUS) {
+        return Head::None;
     }
+    Head::At(f.value(HEAD, 0, [width, 1000000, 1000]))
+}
+
+// An opening without a head, which the bus refuses by 4 if by nothing before.
+fn open(e: usize, f: Faults, s: State) -> bool {
+    let headless = State {
+        width: s.width,
+        picks: s.picks,
+        head: Head::None,
+    };
+    let mut f = f;
+    f.set = f.set | (engine_asks(engine::OPEN, e) & HEAD);
+    compare::opening(e, headless, f.first())
+}
+
+// A call that is given a state and a buffer of `n` bytes to read or to write: a cycle, or all but reading a snapshot.
+fn on_buffers(call: usize, e: usize, f: Faults, s: State, n: usize) -> bool
+    requires { ⌜ n ≤ 256 ⌝ }
+{
+    let lengths = Lengths {
+        read: f.length(READ, n),
+        write: f.length(WRITE, n),
+        nodes: f.length(NODES, 2 * n),
+    };
+    let bytes = spoilt(f, n, (call == engine::CYCLE) as u8);
+    let mut written = [KEPT; 512];
+    let mut nodes = [KEPT; 512];
+    let acknowledge = f.byte(ACKNOWLEDGE, 1, [2, 255, 3]);
+    let a = engine::call(
+        call,
+        e,
+        s,
+        lengths,
+        &bytes,
+        &mut written,
+        &mut nodes,
+        acknowledge,
+    );
+    compare::answer(a, f.first(), place(f, n), 0, s) & kept(&written) & kept(&nodes)
+}
+
+// A snapshot with a head past the end twice, and then one that is marked as none. Reading it asks 5, 8, 3 and 4, in this order.
+fn read_snapshot(f: Faults) -> bool {
+    let snapshot = [
+        3,
+        f.byte(PICKS, 2, [0, 9, 5]),
+        f.byte(HEAD, 3, [4, 255, 1]),
+        f.byte(BITS, f.value(HEAD, 1, [1, 1, 0]), [2, 255, 3]),
+        0,
+    ];
+    let length = engine::lesser(f.length(READ, 4), 5);
+    let a = Snapshot::read(&snapshot[0..length]);
+    if f.has(READ) {
+        return compare::answer(a, 5, 0, 0, compare::nothing());
+    }
+    if f.has(BITS) {
+        return compare::answer(a, 8, 3, 0, compare::nothing());
+    }
+    compare::answer(a, f.first(), 0, 0, compare::nothing())
+}
+
+// With 3 picks: a left and a right byte with a gap, and a code that is too long.
+fn add(f: Faults) -> bool {
+    let picks = f.value(PICKS, 3, [0, 9, 1000]);
+    let left = f.byte(CODE, 1, [2, 1, 15]);
+    let right = f.byte(CODE, 1, [1, 2, 1]);
+    compare::sum(adder::add(picks, left, right), f.first(), 0)
+}
+
+// Whether a buffer is as it was filled.
+fn kept(buffer: &[u8; 512]) -> bool {
+    compare::begins(buffer, &[KEPT; 512])
+}
+
+// How many bytes go with a width: as many, or 4 where it is too large or none.
+fn stations(width: usize) -> usize
+    ensures { λ r. ⌜ r ≤ 256 ⌝ }
+{
+    if width == 0 {
+        return 4;
+    }
+    if 256 < width {
+        return 4;
+    }
+    width
+}
+
+// Where a fault of a byte stands, which may be at `first`.
+fn spot(f: Faults, fault: usize, n: usize, first: usize) -> usize {
+    f.value(fault, 0, [first, small::last(n), n / 2])
+}
+
+// The place that is refused: the first byte that is not a bit, or the second 1.
+fn place(f: Faults, n: usize) -> usize {
+    match f.first() {
+        8 => spot(f, BITS, n, 0),
+        10 => spot(f, SECOND_ONE, n, 1),
+        _ => 0,
+    }
+}
+
+// Bytes with a 1 at the first place: by the faults a second 1 and a byte that is not a bit, in the third variant with another
+// after it.
+fn spoilt(f: Faults, n: usize, byte: u8) -> [u8; 512]
+    ensures { λ r. ⌜ 512 ≡ length r ⌝ }
+{
+    let first = set([byte; 512], 0, 1);
+    let after = set(
+        first,
+        f.value(SECOND_ONE, 0, [0, small::last(n), small::last(n)]),
+        1,
+    );
+    let second = set(after, spot(f, SECOND_ONE, n, 1), 1);
+    if f.has(BITS) {
+        let end = set(second, small::last(n), f.byte(BITS, 0, [1, 255, 9]));
+        return set(end, spot(f, BITS, n, 0), f.byte(BITS, 0, [2, 255, 2]));
+    }
+    second
+}
+
+fn set(bytes: [u8; 512], place: usize, byte: u8) -> [u8; 512]
+    ensures { λ r. ⌜ 512 ≡ length r ⌝ }
+{
+    if 511 < place {
+        return bytes;
+    }
+    let mut bytes = bytes;
+    bytes[place] = byte;
+    bytes
 }

@@ -1,9 +1,11 @@
 // Runs on many widths against the model: requests, heads and picks come from a generator, and each cycle starts from the state
 // that the last one left.
 use crate::engine;
-use crate::engine::Engine;
 use crate::model;
-use crate::report::Tally;
+use crate::model::Cycle;
+use crate::report::Outcome;
+use crate::small;
+use crate::walk::Progress;
 use arbiter::State;
 use rules::Head;
 
@@ -27,101 +29,62 @@ const WIDTHS: [usize; 17] = [
     256,
 ];
 
-// How many cycles a run has.
-const CYCLES: usize = 64;
+// 64 cycles, 3 runs, 17 widths.
+pub(crate) const CASES: usize = 64 * 3 * 17;
 
-// How far a run has come.
-struct Run {
-    state: State,
-    seed: u64,
-    tally: Tally,
-}
-
-// Three runs on each width.
-pub(crate) fn all(e: Engine, name: &[u8]) -> Tally {
-    let mut t = Tally::new();
-    let mut seed: u64 = 1;
-    let mut i: usize = 0;
-    while i < 51 {
-        seed = after(seed);
-        t = of_width(e, name, WIDTHS[i / 3], seed, t);
-        i += 1;
-    }
-    t
-}
-
-// One run on a width, if the engine takes it.
-fn of_width(e: Engine, name: &[u8], width: usize, seed: u64, t: Tally) -> Tally {
+pub(crate) fn case(e: usize, i: usize, p: Progress) -> Progress {
+    let width = WIDTHS[i / 192 % 17];
     let most = engine::most_picks(e, width);
     if most == 0 {
-        return t;
+        return p;
     }
-    let high = (seed / 256) as usize;
-    let state = State {
-        width,
-        picks: first_picks(most, high),
-        head: first_head(e, width, high / 8),
-    };
-    let run = Run {
-        state,
-        seed,
-        tally: t,
-    };
-    cycles(e, name, run)
+    if i % 64 == 0 {
+        return cycle(e, i, first(e, width, most, i, p.seed), p);
+    }
+    let s = p.state;
+    cycle(e, i, s, p)
 }
 
-// The picks, 1 to `most`.
-fn first_picks(most: usize, draw: usize) -> usize {
-    let extra = draw % 8;
-    if extra < most {
-        return extra + 1;
-    }
-    most
-}
-
-// The head at the start: one time in four none, if the engine takes none.
-fn first_head(e: Engine, width: usize, draw: usize) -> Head {
-    if engine::takes_none(e) & (draw % 4 == 0) {
-        return Head::None;
-    }
-    if width == 0 {
-        return Head::None;
-    }
-    Head::At(draw / 4 % width)
-}
-
-fn cycles(e: Engine, name: &[u8], run: Run) -> Tally {
-    let mut run = run;
-    let mut i: usize = 0;
-    while i < CYCLES {
-        run = one(e, name, run, i);
-        i += 1;
-    }
-    run.tally
-}
-
-fn one(e: Engine, name: &[u8], run: Run, i: usize) -> Run {
-    let s = run.state;
-    let t = run.tally;
+// One cycle of a run.
+fn cycle(e: usize, i: usize, s: State, p: Progress) -> Progress {
     let mut requests = [0u8; 256];
-    let seed = draw(run.seed, &mut requests);
-    let acknowledge = (seed / 512 % 2) as u8;
-    let outcome = model::run(e, s, &requests, acknowledge);
-    let part = outcome.part;
-    let state = outcome.state;
-    Run {
-        state,
-        seed,
-        tally: t.case(part, name, s, i),
+    let seed = draw(p.seed, &mut requests);
+    let cycle = cycle_with(e, s, &requests, seed);
+    let state = cycle.state;
+    let mut p = p;
+    p.state = state;
+    p.seed = seed;
+    p.add(Outcome::Ran(cycle.same), i)
+}
+
+fn cycle_with(e: usize, s: State, requests: &[u8; 256], seed: u64) -> Cycle {
+    model::run(e, s, requests, (seed / 512 % 2) as u8)
+}
+
+// The state at a run's start. The picks are 1 to `most`. The first run of three has no head, if the engine takes none.
+fn first(e: usize, width: usize, most: usize, i: usize, seed: u64) -> State {
+    let draw = (seed / 256) as usize;
+    let picks = engine::lesser(draw % 8 + 1, most);
+    if (i % 192 == 0) & (e != engine::BUS) {
+        return State {
+            width,
+            picks,
+            head: Head::None,
+        };
+    }
+    State {
+        width,
+        picks,
+        head: Head::At(engine::lesser(draw / 8 % 256, small::last(width))),
     }
 }
 
 // Draws requests. From cycle to cycle none, one, two or three in four of the stations ask, or all.
-fn draw(seed: u64, requests: &mut [u8]) -> u64 {
+fn draw(seed: u64, requests: &mut [u8; 256]) -> u64 {
     let mut seed = after(seed);
     let dense = seed / 1024 % 5;
     let mut i: usize = 0;
-    while i < requests.len() {
+    while i < 256 {
         seed = after(seed);
         requests[i] = (seed / 4096 % 4 < dense) as u8;
         i += 1;

@@ -1,95 +1,41 @@
 // The saturated adder: known sums, 001's truth table, and every pair of bytes against the model.
 use crate::compare;
-use crate::report::Part;
-use crate::report::Tally;
+use crate::report::Outcome;
 use reference::codes;
 use thermometer::adder;
-ghost use mathlib.Core.Path.{_≡_};
-ghost use lib.ListN.{length};
 
-// A sum that is known, by the adder and by the model.
-pub(crate) fn known(picks: usize, left: u8, right: u8, number: usize, code: u8, t: Tally) -> Tally {
-    let part = compare::sum(adder::add(picks, left, right), number, code);
-    let legal = codes::is_code(picks, left) & codes::is_code(picks, right);
-    let modelled = (codes::sum(picks, left, right) == code) & (legal == (number == 0));
-    t.sum(
-        compare::then(part, modelled, Part::Code),
-        picks,
-        left,
-        right,
-    )
+// 9 rows of 001's truth table of the adder saturated at 2, in its rows of legal codes, with each code that an X stands for; then
+// 01's 4 known sums with 2 picks, the last two refused. The codes are 0 for 00, 1 for 01 and 3 for 11; 2, which is 10, is none.
+const LEFT: [u8; 13] = [0, 0, 1, 1, 3, 3, 3, 0, 1, 1, 3, 2, 1];
+
+const RIGHT: [u8; 13] = [0, 1, 0, 1, 0, 1, 3, 3, 3, 1, 1, 1, 2];
+
+const SUM: [u8; 13] = [0, 1, 1, 3, 3, 3, 3, 3, 3, 3, 3, 0, 0];
+
+pub(crate) const TRUTH_TABLE: usize = 9;
+
+pub(crate) fn known(i: usize) -> Outcome {
+    let row = i % 13;
+    Outcome::Ran(sum(row, LEFT[row], RIGHT[row], SUM[row]))
 }
 
-// The rows of 001's truth table.
-pub(crate) fn truth_table() -> Tally {
-    let mut t = Tally::new();
-    let mut i: usize = 0;
-    while i < 9 {
-        let row = row(i);
-        t = known(2, row[0], row[1], 0, row[2], t);
-        i += 1;
-    }
-    t
+// Whether a sum with 2 picks is as known, by the adder and by the model.
+fn sum(row: usize, left: u8, right: u8, code: u8) -> bool {
+    let number = number(2, left, right);
+    let modelled = (codes::sum(2, left, right) == code) & ((number == 13) == (10 < row));
+    modelled & compare::sum(adder::add(2, left, right), number, code)
 }
 
-// 001's truth table of the adder saturated at 2, in its rows of legal codes, with each code that an X stands for: left, right and
-// sum.
-fn row(i: usize) -> [u8; 3]
-    ensures { λ r. ⌜ 3 ≡ length r ⌝ }
-{
-    match i {
-        0 => [0b00, 0b00, 0b00],
-        1 => [0b00, 0b01, 0b01],
-        2 => [0b01, 0b00, 0b01],
-        3 => [0b01, 0b01, 0b11],
-        4 => [0b11, 0b00, 0b11],
-        5 => [0b11, 0b01, 0b11],
-        6 => [0b11, 0b11, 0b11],
-        7 => [0b00, 0b11, 0b11],
-        _ => [0b01, 0b11, 0b11],
-    }
-}
+// 256 right codes, 256 left codes, 0 to 9 picks.
+pub(crate) const CASES: usize = 256 * 256 * 10;
 
-// All pairs of bytes, with 0 to 9 picks.
-pub(crate) fn all() -> Tally {
-    let mut t = Tally::new();
-    let mut picks: usize = 0;
-    while picks < 10 {
-        t = of_picks(picks, t);
-        picks += 1;
-    }
-    t
-}
-
-fn of_picks(picks: usize, t: Tally) -> Tally {
-    let mut t = t;
-    let mut left: usize = 0;
-    while left < 256 {
-        t = of_left(picks, (left % 256) as u8, t);
-        left += 1;
-    }
-    t
-}
-
-fn of_left(picks: usize, left: u8, t: Tally) -> Tally {
-    let mut t = t;
-    let mut right: usize = 0;
-    while right < 256 {
-        t = one(picks, left, (right % 256) as u8, t);
-        right += 1;
-    }
-    t
-}
-
-fn one(picks: usize, left: u8, right: u8, t: Tally) -> Tally {
-    let code = codes::sum(picks, left, right);
+pub(crate) fn case(i: usize) -> Outcome {
+    let right = (i % 256) as u8;
+    let left = (i / 256 % 256) as u8;
+    let picks = i / 65536;
     let a = adder::add(picks, left, right);
-    t.sum(
-        compare::sum(a, number(picks, left, right), code),
-        picks,
-        left,
-        right,
-    )
+    let code = codes::sum(picks, left, right);
+    Outcome::Ran(compare::sum(a, number(picks, left, right), code))
 }
 
 // The number of the refusal, by the model.

@@ -1,37 +1,36 @@
 -- `same_grants` is safe and ends.
 -- Assumes nothing.
 use Prim.Native.Nat.{_-_, _≤_}
-use lib.ListN.{length}
 use borrow.Author.Needs.{needs}
 use Rattle.vectors.proofs.model.same_grants.Statement.{statement}
 use Rattle.vectors.proofs.model.same_grants.Tie as tie
 
 abbrev Inv-loop : tie.InvT-loop
-Inv-loop s requests grants start i₀ i = i ≤ length grants
+Inv-loop s requests grants start width i₀ i = i ≤ width
 
 abbrev μ-loop : tie.MeasureT-loop
-μ-loop s requests grants start i₀ i = length grants - i
+μ-loop s requests grants start width i₀ i = width - i
 
 station-requires : tie.Need-station-requires Inv-loop μ-loop
 station-requires c κs = search needs
 
-returns : tie.Need-returns Inv-loop μ-loop
-returns c = search needs
+lesser-requires : tie.Need-lesser-requires Inv-loop μ-loop
+lesser-requires c κs = search needs
 
 loop-holds : tie.Need-loop-holds Inv-loop μ-loop
 loop-holds c = search needs
 
+shared-slice-read-if1 : tie.Need-shared-slice-read-if1 Inv-loop μ-loop
+shared-slice-read-if1 c = search needs
+
 granted-requires : tie.Need-granted-requires Inv-loop μ-loop
 granted-requires c κs = search needs
 
-shared-slice-read-if2 : tie.Need-shared-slice-read-if2 Inv-loop μ-loop
-shared-slice-read-if2 c = search needs
+cast-if1 : tie.Need-cast-if1 Inv-loop μ-loop
+cast-if1 c = search needs
 
-cast-if2 : tie.Need-cast-if2 Inv-loop μ-loop
-cast-if2 c = search needs
-
-returns-2 : tie.Need-returns-2 Inv-loop μ-loop
-returns-2 c = search needs
+returns : tie.Need-returns Inv-loop μ-loop
+returns c = search needs
 
 add-i : tie.Need-add-i Inv-loop μ-loop
 add-i c = search needs
@@ -42,8 +41,8 @@ loop-less c = search needs
 loop-again : tie.Need-loop-again Inv-loop μ-loop
 loop-again c = search needs
 
-returns-3 : tie.Need-returns-3 Inv-loop μ-loop
-returns-3 c = search needs
+returns-2 : tie.Need-returns-2 Inv-loop μ-loop
+returns-2 c = search needs
 
 pub same-grants-spec : {M : Type 1} → statement M
 same-grants-spec =
@@ -52,13 +51,13 @@ same-grants-spec =
     Inv-loop
     μ-loop
     station-requires
-    returns
+    lesser-requires
     loop-holds
+    shared-slice-read-if1
     granted-requires
-    shared-slice-read-if2
-    cast-if2
-    returns-2
+    cast-if1
+    returns
     add-i
     loop-less
     loop-again
-    returns-3)
+    returns-2)

@@ -1,17 +1,15 @@
 -- `draw` is safe and ends.
 -- Assumes nothing.
-use Prim.Native.Nat.{_-_}
-use lib.ListN.{length}
-use mathlib.Core.Path.{_≡_}
+use Prim.Native.Nat.{_-_, _≤_}
 use borrow.Author.Needs.{needs}
 use Rattle.vectors.proofs.runs.draw.Statement.{statement}
 use Rattle.vectors.proofs.runs.draw.Tie as tie
 
 abbrev Inv-loop : tie.InvT-loop
-Inv-loop seed requests₀ seed₀ dense i₀ requests seed' i = length requests ≡ length requests₀
+Inv-loop seed requests₀ seed₀ dense i₀ requests seed' i = i ≤ 256
 
 abbrev μ-loop : tie.MeasureT-loop
-μ-loop seed requests₀ seed₀ dense i₀ requests seed' i = length requests₀ - i
+μ-loop seed requests₀ seed₀ dense i₀ requests seed' i = 256 - i
 
 after-requires : tie.Need-after-requires Inv-loop μ-loop
 after-requires c κs = search needs
@@ -25,8 +23,8 @@ after-requires-2 c κs = search needs
 cast-requests : tie.Need-cast-requests Inv-loop μ-loop
 cast-requests c = search needs
 
-slice-write-requests : tie.Need-slice-write-requests Inv-loop μ-loop
-slice-write-requests c = search needs
+element-write-requests : tie.Need-element-write-requests Inv-loop μ-loop
+element-write-requests c = search needs
 
 add-i : tie.Need-add-i Inv-loop μ-loop
 add-i c = search needs
@@ -36,9 +34,6 @@ loop-less c = search needs
 
 loop-again : tie.Need-loop-again Inv-loop μ-loop
 loop-again c = search needs
-
-same-length : tie.Need-same-length Inv-loop μ-loop
-same-length c = search needs
 
 returns : tie.Need-returns Inv-loop μ-loop
 returns c = search needs
@@ -53,9 +48,8 @@ draw-spec =
     loop-holds
     after-requires-2
     cast-requests
-    slice-write-requests
+    element-write-requests
     add-i
     loop-less
     loop-again
-    same-length
     returns)
