@@ -107,7 +107,8 @@ fn asked(call: usize) -> usize {
     }
 }
 
-// The questions that only the tree asks, and only the bus.
+// The questions that only the tree asks, and only the bus, by 4 × call + engine: opening without a head, opening with one by the
+// tree, and the cycle.
 fn engine_asks(call: usize, e: usize) -> usize {
     match 4 * (call % 8) + e % 4 {
         1 => TREE_WIDTH,

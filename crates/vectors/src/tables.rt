@@ -30,7 +30,7 @@ pub(crate) fn case(table: usize, i: usize, p: Progress) -> Progress {
     p.add(Outcome::Ran(expected(table, place) == met), i)
 }
 
-// A node on the way down. Where no one is granted no way is seen.
+// A node on the way down, the lowest first. Where no one is granted no way is seen.
 fn node(table: usize, i: usize, p: Progress) -> Progress {
     let h = small::head(i / 768 % 9);
     let s = State {
