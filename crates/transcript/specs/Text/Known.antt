@@ -2,7 +2,7 @@
 -- their characters. What a served cycle grants is not computed here, since the round-robin rule is shut; the test program runs
 -- 01's example.
 -- Assumes nothing.
-use Prim.Native.Nat.{ℕ, _+_, _≤_, _<_}
+use Prim.Native.Nat.{ℕ, _≤_, _<_}
 use mathlib.Core.Path.{_≡_, refl}
 use mathlib.Core.List.{List, [], _∷_, _++_}
 use lib.ListN.{length}
