@@ -9,4 +9,5 @@ returns-2 : tie.Need-returns-2
 returns-2 c = simp length-set (search needs)
 
 pub set-spec : {M : Type 1} → statement M
-set-spec = tie.close (tie.spec (λ c. search needs) (λ c. search needs) returns-2)
+set-spec =
+    tie.close (tie.spec (λ c. search needs) (λ c. search needs) returns-2)

@@ -13,5 +13,5 @@ abbrev μ-loop : tie.MeasureT-loop
 
 pub walk-spec : {M : Type 1} → statement M
 walk-spec =
-    tie.close
-    (tie.spec Inv-loop μ-loop (λ c. search needs) (λ c κs. search needs) (λ c. search needs) (λ c. search needs) (λ c. search needs) (λ c. search needs))
+    let part1 = tie.spec Inv-loop μ-loop (λ c. search needs) (λ c κs. search needs) (λ c. search needs) (λ c. search needs) in
+    tie.close (part1 (λ c. search needs) (λ c. search needs))
