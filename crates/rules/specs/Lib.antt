@@ -3,4 +3,5 @@ pub mod RoundRobin
 pub mod Walk
 pub mod Tree
 pub mod Thermometer
+pub mod KoggeStone
 pub mod Bus

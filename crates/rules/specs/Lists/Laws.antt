@@ -134,6 +134,11 @@ before-split w (x ∷ xs) h =
     (λ e. (xs, rw e (ap {B = List ℕ} (λ (i : ℕ). i ∷ xs) (sym (eqb-true w x e)))))
     (λ e. let r = before-split w xs (rw e at h) in (r .0, rw e (ap {B = List ℕ} (λ l. x ∷ l) (r .1))))
 
+-- they are the beginning of the list
+pub before-take : (w : ℕ) (xs : List ℕ) → before w xs ≡ take (length (before w xs)) xs
+before-take w [] = refl
+before-take w (x ∷ xs) = split (eqb w x) (λ e. rw e) (λ e. rw e (ap {B = List ℕ} (λ l. x ∷ l) (before-take w xs)))
+
 -- no more pass before w than in the whole list
 pub count-before-le : (p : ℕ → Bool) (w : ℕ) (xs : List ℕ) → count p (before w xs) ≤ count p xs
 count-before-le p w [] = omega arith

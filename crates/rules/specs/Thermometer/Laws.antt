@@ -1,6 +1,6 @@
 -- Laws of the thermometer arbiter's rule.
 -- Assumes nothing.
-use Prim.Native.Nat.{ℕ, _+_, _≤_, _<_, min}
+use Prim.Native.Nat.{ℕ, zero, suc, _+_, _-_, _^_, _≤_, _<_, min}
 use mathlib.Core.Path.{_≡_, refl, sym, ap, _∙_}
 use mathlib.Core.Bool.{Bool, true, _&&_}
 use native.Mathlib.Omega.{arith}
@@ -8,8 +8,9 @@ use native.Mathlib.Nat.{zero-add, add-zero}
 use lib.Count.{ones, ones-ones}
 use lib.Dec.{ltb, leb, eqb}
 use lib.ListN.{length, getD}
+use lib.Pow.{pow-lt, pow-mono, pow-pos}
 use lib.Seq.{ext-getD}
-use borrow.Author.Tests.{leb-true, le-leb, eqb-true, eq-eqb}
+use borrow.Author.Tests.{leb-true, le-leb, eqb-true, eq-eqb, ltb-true, ltb-false, lt-ltb, le-ltb}
 use Rattle.rules.specs.declared.Head.{Head}
 use Rattle.rules.specs.Lists.{bit, count, before}
 use Rattle.rules.specs.Lists.Laws as Lists
@@ -27,6 +28,11 @@ ones-code c = ones-ones c
 pub add-codes : (m a b : ℕ) → add m (code a) (code b) ≡ code (min m (a + b))
 unfolding add
 add-codes m a b = rw (ones-code a, ones-code b)
+
+-- the saturated adder may be regrouped: 02, N1, "for all m". It is so for any three numbers, not only for codes
+pub add-regroup : (m a b c : ℕ) → add m (add m a b) c ≡ add m a (add m b c)
+unfolding add
+add-regroup m a b c = rw (ones-code (min m (ones a + ones b)), ones-code (min m (ones b + ones c))) (ap code (omega arith))
 
 -- nothing counted
 pub zero-ones : ones 0 ≡ 0
@@ -51,6 +57,33 @@ code-few m byte t = leb-true (ones byte) m (Lists.both (eqb byte (code (ones byt
 pub is-code : (m c : ℕ) → c ≤ m → isCode m (code c) ≡ true
 unfolding isCode
 is-code m c l = rw (ones-code c, eq-eqb (code c) (code c) refl) (le-leb c m l)
+
+-- a sum is one
+pub add-is-code : (m a b : ℕ) → isCode m (add m a b) ≡ true
+unfolding add
+add-is-code m a b = is-code m (min m (ones a + ones b)) (omega arith)
+
+-- a request, which is 0 or 1, has as many ones
+pub ones-bit : (r : ℕ) → r ≤ 1 → ones r ≡ r
+unfolding ones
+ones-bit zero u = refl
+ones-bit (suc zero) u = refl
+ones-bit (suc (suc r)) u = absurd (omega arith)
+
+-- and is the code of a count
+pub code-bit : (m r : ℕ) → 1 ≤ m → r ≤ 1 → code (min m (bit (eqb r 1))) ≡ r
+unfolding code
+code-bit m zero l u = let few : min m 0 ≡ 0 = omega arith in rw few
+code-bit m (suc zero) l u = let few : min m 1 ≡ 1 = omega arith in rw few
+code-bit m (suc (suc r)) l u = absurd (omega arith)
+
+-- codes are in the order of their counts
+pub code-below : (a b : ℕ) → ltb (code a) (code b) ≡ ltb a b
+unfolding code
+code-below a b =
+    Lists.split (ltb a b)
+    (λ t. rw t (lt-ltb (2 ^ a - 1) (2 ^ b - 1) (omega (arith, pow-lt (ltb-true a b t), pow-pos a))))
+    (λ f. rw f (le-ltb (2 ^ a - 1) (2 ^ b - 1) (omega (arith, pow-mono (ltb-false a b f)))))
 
 -- a saturated count is below m exactly if the count is
 below : (m c : ℕ) → ltb (min m c) m ≡ ltb c m

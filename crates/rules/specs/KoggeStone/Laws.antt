@@ -1,0 +1,236 @@
+-- Laws of the network: it counts what the serial counts say, since the adder may be regrouped.
+-- Assumes nothing.
+use Prim.Native.Nat.{ℕ, zero, suc, _+_, _-_, _*_, _%_, _^_, _≤_, _<_, min}
+use mathlib.Core.Path.{_≡_, refl, sym, ap, ap₂, _∙_}
+use mathlib.Core.Bool.{Bool, true, false}
+use mathlib.Core.List.{List, [], _∷_, _++_, map}
+use native.Mathlib.Omega.{arith}
+use native.Mathlib.Nat.{add-zero, add-suc, zero-add, pow-suc}
+use native.Mathlib.Numerals.{add-one}
+use lib.Dec.{ltb}
+use lib.Count.{ones}
+use lib.ListN.{length, getD, take, length-map}
+use lib.Pow.{pow-pos}
+use lib.Seq.{take-suc, take-all, take-append-add}
+use borrow.Author.Tests.{ltb-true, ltb-false, lt-ltb, le-ltb}
+use Rattle.rules.specs.declared.Head.{Head}
+use Rattle.rules.specs.declared.Head.the-variants.{At}
+use Rattle.rules.specs.Lists.{bit, range, filter, count, before}
+use Rattle.rules.specs.Lists.Laws as Lists
+use Rattle.rules.specs.RoundRobin.{start, order, granted, next}
+use Rattle.rules.specs.RoundRobin.Laws as RoundRobin
+use Rattle.rules.specs.Thermometer.{code, add, saturated}
+use Rattle.rules.specs.Thermometer.Laws.{ones-code, add-codes, add-regroup}
+use Rattle.rules.specs.KoggeStone.{distances, joined, levels, inputs, network, counts, countBefore}
+
+-- as many codes after a joining
+pub joined-length : (m d : ℕ) (codes : List ℕ) → length (joined m d codes) ≡ length codes
+unfolding joined
+joined-length m d codes = Lists.length-table _ 0 (length codes)
+
+-- a position nearer to the first than the distance
+pub joined-near : (m d : ℕ) (codes : List ℕ) (p : ℕ) → p < length codes → p < d → getD (joined m d codes) p 0 ≡ getD codes p 0
+unfolding joined
+joined-near m d codes p l near = Lists.getD-table _ 0 (length codes) p l ∙ rw (zero-add, lt-ltb p d near)
+
+-- and every other
+pub joined-far : (m d : ℕ) (codes : List ℕ) (p : ℕ) → p < length codes → d ≤ p
+    → getD (joined m d codes) p 0 ≡ add m (getD codes (p - d) 0) (getD codes p 0)
+unfolding joined
+joined-far m d codes p l far = Lists.getD-table _ 0 (length codes) p l ∙ rw (zero-add, le-ltb p d far)
+
+-- a power of two is larger than its exponent
+pow-more : (k : ℕ) → k < 2 ^ k
+pow-more zero = omega arith
+pow-more (suc k) = omega (arith, pow-suc 2 k, pow-more k)
+
+-- the distances from 2 ^ k on
+abbrev from : ℕ → ℕ → List ℕ
+from n k = filter (λ d. ltb d n) (map (λ j. 2 ^ j) (range k (n - k)))
+
+from-first : (n : ℕ) → distances n ≡ from n 0
+unfolding distances
+from-first n = let all : n - 0 ≡ n = omega arith in rw all
+
+from-next : (n k : ℕ) → 2 ^ k < n → from n k ≡ 2 ^ k ∷ from n (suc k)
+from-next n k l = let more : n - k ≡ suc (n - suc k) = omega (arith, pow-more k) in rw (more, lt-ltb (2 ^ k) n l)
+
+from-none : (n k c : ℕ) → n ≤ 2 ^ k → filter (λ d. ltb d n) (map (λ j. 2 ^ j) (range k c)) ≡ []
+from-none n k zero l = refl
+from-none n k (suc c) l = rw (le-ltb (2 ^ k) n l) (from-none n (suc k) c (omega (arith, pow-suc 2 k)))
+
+-- the network half way: these codes, joined at distance d, at twice that and so on, give `out`
+pub record Left (m n d : ℕ) (codes out : List ℕ) : Type 0 where
+  power : ℕ
+  is : d ≡ 2 ^ power
+  rest : levels m (from n power) codes ≡ out
+
+pub begin : (m n d : ℕ) (codes : List ℕ) → d ≡ 1 → Left m n d codes (levels m (distances n) codes)
+begin m n d codes e = record { power = 0; is = e; rest = rw (from-first n) }
+
+pub step : (m n d : ℕ) (codes out : List ℕ) → d < n → Left m n d codes out → Left m n (d * 2) (joined m d codes) out
+unfolding levels
+step m n d codes out l r =
+    let k = r .power in
+    let next : levels m (from n k) codes ≡ levels m (from n (suc k)) (joined m (2 ^ k) codes) =
+    ap (λ (ds : List ℕ). levels m ds codes) (from-next n k (omega (arith, r .is))) in
+    record { power = suc k; is = omega (arith, r .is, pow-suc 2 k); rest = rw (r .is) (sym next ∙ r .rest) }
+
+pub done : (m n d : ℕ) (codes out : List ℕ) → n ≤ d → Left m n d codes out → codes ≡ out
+unfolding levels
+done m n d codes out l r =
+    ap (λ (ds : List ℕ). levels m ds codes) (sym (from-none n (r .power) (n - r .power) (omega (arith, r .is)))) ∙ r .rest
+
+-- codes added up one after the other: k more than the one at position a
+sum : ℕ → List ℕ → ℕ → ℕ → ℕ
+sum m codes a zero = getD codes a 0
+sum m codes a (suc k) = add m (sum m codes a k) (getD codes (suc (a + k)) 0)
+
+-- two such sums side by side are one: here the adder is regrouped
+sums : (m : ℕ) (codes : List ℕ) (a j k : ℕ) → add m (sum m codes a j) (sum m codes (suc (a + j)) k) ≡ sum m codes a (suc (j + k))
+unfolding sum
+sums m codes a j zero = rw (add-zero j)
+sums m codes a j (suc k) =
+    let here : suc (suc (a + j) + k) ≡ suc (a + suc (j + k)) = omega arith in
+    sym (add-regroup m (sum m codes a j) (sum m codes (suc (a + j)) k) (getD codes (suc (suc (a + j) + k)) 0))
+    ∙ rw (sums m codes a j k, here, add-suc j k)
+
+-- the network before distance d: each position has the sum of the d positions up to it, or of all of them where they are fewer
+record Windows (m d : ℕ) (ins codes : List ℕ) : Type 0 where
+  long : length codes ≡ length ins
+  near : (p : ℕ) → p < length ins → p < d → getD codes p 0 ≡ sum m ins 0 p
+  far : (p : ℕ) → p < length ins → d ≤ p → getD codes p 0 ≡ sum m ins (suc p - d) (d - 1)
+
+widen : (m d : ℕ) (ins codes : List ℕ) → 1 ≤ d → Windows m d ins codes → Windows m (d * 2) ins (joined m d codes)
+widen m d ins codes some w =
+    record {
+      long = joined-length m d codes ∙ w .long;
+      near =
+          λ p l u.
+          Lists.split (ltb p d)
+          (λ t. joined-near m d codes p (omega (arith, w .long)) (ltb-true p d t) ∙ w .near p l (ltb-true p d t))
+          (λ f.
+          let over : d ≤ p = ltb-false p d f in
+          let half : suc p - d ≡ suc (0 + (p - d)) = omega arith in
+          let all : suc ((p - d) + (d - 1)) ≡ p = omega arith in
+          joined-far m d codes p (omega (arith, w .long)) over
+          ∙ ap₂ (add m) (w .near (p - d) (omega arith) (omega arith)) (w .far p l over ∙ rw half)
+          ∙ sums m ins 0 (p - d) (d - 1)
+          ∙ rw all);
+      far =
+          λ p l u.
+          let from : suc (p - d) - d ≡ suc p - d * 2 = omega arith in
+          let half : suc p - d ≡ suc ((suc p - d * 2) + (d - 1)) = omega arith in
+          let all : suc ((d - 1) + (d - 1)) ≡ d * 2 - 1 = omega arith in
+          joined-far m d codes p (omega (arith, w .long)) (omega arith)
+          ∙ ap₂ (add m) (w .far (p - d) (omega arith) (omega arith) ∙ rw from) (w .far p l (omega arith) ∙ rw half)
+          ∙ sums m ins (suc p - d * 2) (d - 1) (d - 1)
+          ∙ rw all;
+    }
+
+-- after the last distance every position has the sum of all positions up to it
+whole : (m : ℕ) (ins codes : List ℕ) (c k : ℕ) → length ins ≤ k + c → Windows m (2 ^ k) ins codes → (p : ℕ) → p < length ins
+    → getD (levels m (from (length ins) k) codes) p 0 ≡ sum m ins 0 p
+unfolding levels
+whole m ins codes zero k l w p u =
+    rw (from-none (length ins) k (length ins - k) (omega (arith, pow-more k))) (w .near p u (omega (arith, pow-more k)))
+whole m ins codes (suc c) k l w p u =
+    Lists.split (ltb (2 ^ k) (length ins))
+    (λ t.
+    rw (from-next (length ins) k (ltb-true (2 ^ k) (length ins) t))
+    (whole m ins (joined m (2 ^ k) codes) c (suc k) (omega arith) (rw (← pow-suc 2 k) at (widen m (2 ^ k) ins codes (pow-pos k) w)) p u))
+    (λ f.
+    let over = ltb-false (2 ^ k) (length ins) f in
+    rw (from-none (length ins) k (length ins - k) over) (w .near p u (omega arith)))
+
+-- each position's result is a prefix: the sum of the codes up to it
+prefix : (m : ℕ) (ins : List ℕ) (p : ℕ) → p < length ins → getD (levels m (distances (length ins)) ins) p 0 ≡ sum m ins 0 p
+unfolding sum
+prefix m ins p l =
+    let start : Windows m (2 ^ 0) ins ins =
+    record {
+      long = refl;
+      near = λ q u v. let first : q ≡ 0 = omega arith in rw first;
+      far = λ q u v. let here : suc q - 2 ^ 0 ≡ q = omega arith in let alone : 2 ^ 0 - 1 ≡ 0 = omega arith in rw (here, alone);
+    } in
+    rw (from-first (length ins)) (whole m ins ins (length ins) 0 (omega arith) start p l)
+
+-- the codes of the stations' requests
+coded : (m : ℕ) (asks : ℕ → Bool) (ws : List ℕ) (p : ℕ) → p < length ws
+    → getD (map (λ w. code (min m (bit (asks w)))) ws) p 0 ≡ code (min m (bit (asks (getD ws p 0))))
+coded m asks [] p l = absurd (omega arith)
+coded m asks (w ∷ ws) zero l = refl
+coded m asks (w ∷ ws) (suc p) l = coded m asks ws p (omega arith)
+
+-- added up one after the other they are the serial count
+serial : (m : ℕ) (asks : ℕ → Bool) (ws : List ℕ) (p : ℕ) → p < length ws
+    → sum m (map (λ w. code (min m (bit (asks w)))) ws) 0 p ≡ code (min m (count asks (take (suc p) ws)))
+unfolding sum
+serial m asks ws zero l =
+    coded m asks ws 0 l ∙ ap code (omega (arith, ap (count asks) (take-suc ws 0 0 l)))
+serial m asks ws (suc p) l =
+    ap₂ (add m) (serial m asks ws p (omega arith)) (rw (zero-add p) (coded m asks ws (suc p) l))
+    ∙ add-codes m (min m (count asks (take (suc p) ws))) (min m (bit (asks (getD ws (suc p) 0))))
+    ∙ ap code (omega (
+      arith,
+      ap (count asks) (take-suc ws (suc p) 0 l),
+      Lists.count-append asks (take (suc p) ws) (getD ws (suc p) 0 ∷ []),
+    ))
+
+-- a network with one position for each station
+module _ (n m : ℕ) (h : Head) (asks : ℕ → Bool) (station : start h ≤ n) where
+  inputs-length : length (inputs n m h asks) ≡ n
+  unfolding inputs
+  inputs-length = length-map (order n h) _ ∙ RoundRobin.order-length n h station
+
+  -- the counts by positions: before position p, how many of the first p ask, m at the most
+  counts-at : (p : ℕ) → p ≤ n → getD (counts n m h asks) p 0 ≡ code (min m (count asks (take p (order n h))))
+  unfolding counts network inputs code
+  counts-at zero l = let none : min m 0 ≡ 0 = omega arith in rw none
+  counts-at (suc p) l =
+      let all : levels m (distances (length (inputs n m h asks))) (inputs n m h asks) ≡ network n m h asks = rw inputs-length in
+      ap (λ (codes : List ℕ). getD codes p 0) (sym all)
+      ∙ prefix m (inputs n m h asks) p (omega (arith, inputs-length))
+      ∙ serial m asks (order n h) p (omega (arith, RoundRobin.order-length n h station))
+
+  -- N1's "It must equal the serial counts at each station for any N and m"
+  pub count-serial : (w : ℕ) → w < n → countBefore n m h asks w ≡ code (saturated n m h asks w)
+  unfolding countBefore saturated
+  count-serial w l =
+      counts-at (length (before w (order n h))) (omega (arith, RoundRobin.before-length n h w station l))
+      ∙ rw (← Lists.before-take w (order n h))
+
+  -- before the end stand all
+  pub count-all : getD (counts n m h asks) n 0 ≡ code (length (granted n m h asks))
+  count-all =
+      counts-at n (omega arith)
+      ∙ rw (take-all n (order n h) (omega (arith, RoundRobin.order-length n h station)), RoundRobin.granted-length n m h asks)
+
+  -- the station at whose position the last count is reached was granted last
+  pub count-last : (w : ℕ) → w < n
+      → let p = length (before w (order n h)) in
+      (getD (counts n m h asks) p 0 ≡ getD (counts n m h asks) n 0 → ⊥) → getD (counts n m h asks) (suc p) 0 ≡ getD (counts n m h asks) n 0
+      → next n m h asks ≡ At ((w + 1) % n)
+  count-last w l less same =
+      let p = length (before w (order n h)) in
+      let inside = RoundRobin.before-length n h w station l in
+      let split = Lists.before-split w (order n h) (RoundRobin.order-member n h w station l) in
+      let upto : take (suc p) (order n h) ≡ before w (order n h) ++ (w ∷ []) =
+      rw (← add-one p) (ap (take (p + 1)) (split .1) ∙ take-append-add (before w (order n h)) (w ∷ split .0) 1) in
+      let t = count asks (before w (order n h)) in
+      let few : getD (counts n m h asks) p 0 ≡ code (min m t) = counts-at p (omega arith) ∙ rw (← Lists.before-take w (order n h)) in
+      let reached : min m (t + bit (asks w)) ≡ length (granted n m h asks) =
+      omega (
+        arith,
+        ap ones (sym (counts-at (suc p) (omega arith)) ∙ same ∙ count-all),
+        ones-code (min m (count asks (take (suc p) (order n h)))),
+        ones-code (length (granted n m h asks)),
+        ap (count asks) upto,
+        Lists.count-append asks (before w (order n h)) (w ∷ []),
+      ) in
+      let other : min m t ≡ length (granted n m h asks) → ⊥ = λ e. less (few ∙ ap code e ∙ sym count-all) in
+      Lists.split (asks w)
+      (λ a.
+      RoundRobin.next-last n m h asks (filter asks (before w (order n h))) w
+      (RoundRobin.granted-upto n m h asks w station l a (omega (arith, reached, ap bit a))))
+      (λ a. absurd (other (omega (arith, reached, ap bit a))))
