@@ -27,9 +27,13 @@ pub levels : ℕ → List ℕ → List ℕ → List ℕ
 levels m [] codes = codes
 levels m (d ∷ ds) codes = levels m ds (joined m d codes)
 
--- what goes in, N1's "over turn order": for each station in that order the code of its request
+-- a station's request as a code: of 1 if it asks, and of 0 if not
+abbrev pub input : ℕ → (ℕ → Bool) → ℕ → ℕ
+input m asks w = code (min m (bit (asks w)))
+
+-- what goes in, N1's "over turn order"
 pub inputs : ℕ → ℕ → Head → (ℕ → Bool) → List ℕ
-inputs n m h asks = map (λ w. code (min m (bit (asks w)))) (order n h)
+inputs n m h asks = map (input m asks) (order n h)
 
 -- what comes out: for each position the code of how many ask up to it, its own station included
 pub network : ℕ → ℕ → Head → (ℕ → Bool) → List ℕ

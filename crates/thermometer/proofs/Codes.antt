@@ -15,7 +15,7 @@ use borrow.Author.Tests.{leb-true, leb-false}
 use Rattle.rules.specs.Lists.{range, filter}
 use Rattle.rules.specs.Lists.Laws as Lists
 use Rattle.rules.specs.Thermometer.{code, isCode, add}
-use Rattle.rules.specs.Thermometer.Laws.{code-own, code-few}
+use Rattle.rules.specs.Thermometer.Laws.{code-own, code-few, ones-bit}
 
 -- the tests differ on a byte: as many trailing ones as ones, and the code of its ones
 abbrev differ : ℕ → Bool
@@ -40,13 +40,6 @@ pub trailing-code : (m byte count : ℕ) → byte < 256 → count ≡ ones byte
     → (eqb (trailingZeros 8 (255 - byte)) count && leb count m) ≡ isCode m byte
 unfolding isCode
 trailing-code m byte count l e = rw (e, all-alike byte l)
-
--- a request, which is 0 or 1, has as many ones
-pub ones-bit : (r : ℕ) → r ≤ 1 → ones r ≡ r
-unfolding ones
-ones-bit zero u = refl
-ones-bit (suc zero) u = refl
-ones-bit (suc (suc r)) u = absurd (omega arith)
 
 -- of two codes, the ones of the smaller are those that they share
 shared : (a b : ℕ) → a ≤ b → bitAnd (code a) (code b) ≡ code a

@@ -11,15 +11,9 @@ use lib.ListN.{length, set}
 use borrow.Author.Tests.{eqb-true, eqb-false, ltb-true, ltb-false, eq-eqb, ne-eqb, lt-ltb, not-true}
 use Rattle.rules.specs.Lists.Laws as Lists
 use Rattle.rules.specs.Thermometer.{code, isCode, add}
-use Rattle.rules.specs.Thermometer.Laws.{ones-code, is-code, code-own, code-few}
+use Rattle.rules.specs.Thermometer.Laws.{ones-code, ones-bit, add-is-code, code-own, code-few}
 use Rattle.rules.specs.Walk.{Ran}
 use Rattle.rules.specs.Walk.Laws as Walk
-use Rattle.thermometer.proofs.Codes.{ones-bit}
-
--- the sum is a code
-pub add-is-code : (m a b : ℕ) → isCode m (add m a b) ≡ true
-unfolding add
-add-is-code m a b = is-code m (min m (ones a + ones b)) (omega arith)
 
 -- at a station with the code a before it and the request byte b
 module _ (m a b : ℕ) (coded : isCode m a ≡ true) (is-bit : b ≤ 1) where

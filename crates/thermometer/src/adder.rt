@@ -5,7 +5,7 @@ use arbiter::question::Verdict;
 use arbiter::refusal;
 ghost use mathlib.Core.Bool.{true};
 ghost use mathlib.Core.Path.{_≡_};
-ghost use Prim.Native.Nat.{_≤_};
+ghost use Prim.Native.Nat.{_≤_, min};
 ghost use lib.Count.{ones};
 ghost use Rattle.rules.specs.Thermometer as Rule;
 ghost use Rattle.thermometer.specs.Adder as Adder;
@@ -75,17 +75,19 @@ pub(crate) fn step(full: u8, code: u8, request: u8) -> u8
     code | (more as u8)
 }
 
-// The code of a count.
-pub(crate) fn code(count: usize) -> u8
-    requires { ⌜ count ≤ 8 ⌝ }
-    ensures { λ r. ⌜ r ≡ Rule.code count ⌝ }
+// The code of a count. A byte has room for eight: of a larger count it is the code of 8.
+pub fn code(count: usize) -> u8
+    ensures { λ r. ⌜ r ≡ Rule.code (min 8 count) ⌝ }
 {
-    let above: u32 = 1 << count;
-    (above - 1) as u8
+    if count < MAX_PICKS {
+        let above: u32 = 1 << count;
+        return (above - 1) as u8;
+    }
+    255
 }
 
 // The count of a code: the number of its ones.
-pub(crate) fn count(code: u8) -> usize
+pub fn count(code: u8) -> usize
     ensures { λ r. ⌜ r ≡ ones code ⌝ }
 {
     u8::count_ones(code) as usize

@@ -3,7 +3,7 @@
 use Prim.Native.Nat.{ℕ, zero, suc, _+_, _-_, _*_, _%_, _^_, _≤_, _<_, min}
 use mathlib.Core.Path.{_≡_, refl, sym, ap, ap₂, _∙_}
 use mathlib.Core.Bool.{Bool, true, false}
-use mathlib.Core.List.{List, [], _∷_, _++_, map}
+use mathlib.Core.List.{List, [], _∷_, _++_, map, map-append}
 use native.Mathlib.Omega.{arith}
 use native.Mathlib.Nat.{add-zero, add-suc, zero-add, pow-suc}
 use native.Mathlib.Numerals.{add-one}
@@ -19,9 +19,9 @@ use Rattle.rules.specs.Lists.{bit, range, filter, count, before}
 use Rattle.rules.specs.Lists.Laws as Lists
 use Rattle.rules.specs.RoundRobin.{start, order, granted, next}
 use Rattle.rules.specs.RoundRobin.Laws as RoundRobin
-use Rattle.rules.specs.Thermometer.{code, add, saturated}
-use Rattle.rules.specs.Thermometer.Laws.{ones-code, add-codes, add-regroup}
-use Rattle.rules.specs.KoggeStone.{distances, joined, levels, inputs, network, counts, countBefore}
+use Rattle.rules.specs.Thermometer.{code, isCode, add, saturated}
+use Rattle.rules.specs.Thermometer.Laws.{ones-code, is-code, add-codes, add-regroup}
+use Rattle.rules.specs.KoggeStone.{distances, joined, levels, input, inputs, network, counts, countBefore}
 
 -- as many codes after a joining
 pub joined-length : (m d : ℕ) (codes : List ℕ) → length (joined m d codes) ≡ length codes
@@ -157,14 +157,14 @@ prefix m ins p l =
 
 -- the codes of the stations' requests
 coded : (m : ℕ) (asks : ℕ → Bool) (ws : List ℕ) (p : ℕ) → p < length ws
-    → getD (map (λ w. code (min m (bit (asks w)))) ws) p 0 ≡ code (min m (bit (asks (getD ws p 0))))
+    → getD (map (input m asks) ws) p 0 ≡ input m asks (getD ws p 0)
 coded m asks [] p l = absurd (omega arith)
 coded m asks (w ∷ ws) zero l = refl
 coded m asks (w ∷ ws) (suc p) l = coded m asks ws p (omega arith)
 
 -- added up one after the other they are the serial count
 serial : (m : ℕ) (asks : ℕ → Bool) (ws : List ℕ) (p : ℕ) → p < length ws
-    → sum m (map (λ w. code (min m (bit (asks w)))) ws) 0 p ≡ code (min m (count asks (take (suc p) ws)))
+    → sum m (map (input m asks) ws) 0 p ≡ code (min m (count asks (take (suc p) ws)))
 unfolding sum
 serial m asks ws zero l =
     coded m asks ws 0 l ∙ ap code (omega (arith, ap (count asks) (take-suc ws 0 0 l)))
@@ -177,19 +177,56 @@ serial m asks ws (suc p) l =
       Lists.count-append asks (take (suc p) ws) (getD ws (suc p) 0 ∷ []),
     ))
 
+-- what goes in is two runs of stations: from the first to the end, and from 0 up to the first
+pub inputs-runs : (n m : ℕ) (h : Head) (asks : ℕ → Bool)
+    → inputs n m h asks ≡ map (input m asks) (range (start h) (n - start h)) ++ map (input m asks) (range 0 (start h))
+unfolding inputs
+inputs-runs n m h asks = rw (RoundRobin.order-runs n h) (map-append (input m asks) (range (start h) (n - start h)) (range 0 (start h)))
+
+-- and is codes
+pub inputs-codes : (n m : ℕ) (h : Head) (asks : ℕ → Bool) (p : ℕ) → p < length (inputs n m h asks) → isCode m (getD (inputs n m h asks) p 0) ≡ true
+unfolding inputs
+inputs-codes n m h asks p l =
+    let w = getD (order n h) p 0 in
+    rw (coded m asks (order n h) p (omega (arith, length-map (order n h) (input m asks))))
+    (is-code m (min m (bit (asks w))) (omega arith))
+
+-- the counts are what comes out, one position on
+pub counts-shifted : (n m : ℕ) (h : Head) (asks : ℕ → Bool) → counts n m h asks ≡ 0 ∷ network n m h asks
+unfolding counts
+counts-shifted n m h asks = refl
+
+-- as many codes come out as go in
+levels-length : (m : ℕ) (ds codes : List ℕ) → length (levels m ds codes) ≡ length codes
+unfolding levels
+levels-length m [] codes = refl
+levels-length m (d ∷ ds) codes = levels-length m ds (joined m d codes) ∙ joined-length m d codes
+
 -- a network with one position for each station
 module _ (n m : ℕ) (h : Head) (asks : ℕ → Bool) (station : start h ≤ n) where
   inputs-length : length (inputs n m h asks) ≡ n
   unfolding inputs
   inputs-length = length-map (order n h) _ ∙ RoundRobin.order-length n h station
 
+  -- the network is told by what goes in
+  pub network-levels : levels m (distances (length (inputs n m h asks))) (inputs n m h asks) ≡ network n m h asks
+  unfolding network
+  network-levels = rw inputs-length
+
+  pub network-length : length (network n m h asks) ≡ n
+  unfolding network
+  network-length = levels-length m (distances n) (inputs n m h asks) ∙ inputs-length
+
+  -- and there is one count more
+  pub counts-length : length (counts n m h asks) ≡ suc n
+  counts-length = rw (counts-shifted n m h asks) (ap suc network-length)
+
   -- the counts by positions: before position p, how many of the first p ask, m at the most
   counts-at : (p : ℕ) → p ≤ n → getD (counts n m h asks) p 0 ≡ code (min m (count asks (take p (order n h))))
-  unfolding counts network inputs code
+  unfolding counts inputs code
   counts-at zero l = let none : min m 0 ≡ 0 = omega arith in rw none
   counts-at (suc p) l =
-      let all : levels m (distances (length (inputs n m h asks))) (inputs n m h asks) ≡ network n m h asks = rw inputs-length in
-      ap (λ (codes : List ℕ). getD codes p 0) (sym all)
+      ap (λ (codes : List ℕ). getD codes p 0) (sym network-levels)
       ∙ prefix m (inputs n m h asks) p (omega (arith, inputs-length))
       ∙ serial m asks (order n h) p (omega (arith, RoundRobin.order-length n h station))
 
@@ -199,6 +236,11 @@ module _ (n m : ℕ) (h : Head) (asks : ℕ → Bool) (station : start h ≤ n) 
   count-serial w l =
       counts-at (length (before w (order n h))) (omega (arith, RoundRobin.before-length n h w station l))
       ∙ rw (← Lists.before-take w (order n h))
+
+  -- the same by the station's position
+  pub count-position : (w : ℕ) → w < n → getD (counts n m h asks) (length (before w (order n h))) 0 ≡ code (saturated n m h asks w)
+  unfolding countBefore
+  count-position w l = count-serial w l
 
   -- before the end stand all
   pub count-all : getD (counts n m h asks) n 0 ≡ code (length (granted n m h asks))

@@ -139,6 +139,19 @@ pub before-take : (w : ℕ) (xs : List ℕ) → before w xs ≡ take (length (be
 before-take w [] = refl
 before-take w (x ∷ xs) = split (eqb w x) (λ e. rw e) (λ e. rw e (ap {B = List ℕ} (λ l. x ∷ l) (before-take w xs)))
 
+-- they are no more than stand before any place where w is
+pub before-first : (w : ℕ) (xs : List ℕ) (i : ℕ) → i < length xs → getD xs i 0 ≡ w → length (before w xs) ≤ i
+before-first w [] i l e = absurd (omega arith)
+before-first w (x ∷ xs) zero l e = rw (eq-eqb w x (sym e)) (omega arith)
+before-first w (x ∷ xs) (suc i) l e =
+    split (eqb w x) (λ t. rw t (omega arith)) (λ f. rw f (omega (arith, before-first w xs i (omega arith) e)))
+
+-- and where they are not all, w comes next
+pub before-next : (w : ℕ) (xs : List ℕ) → length (before w xs) < length xs → getD xs (length (before w xs)) 0 ≡ w
+before-next w [] l = absurd (omega arith)
+before-next w (x ∷ xs) l =
+    split (eqb w x) (λ t. rw t (sym (eqb-true w x t))) (λ f. rw f (before-next w xs (omega (arith, rw f at l))))
+
 -- no more pass before w than in the whole list
 pub count-before-le : (p : ℕ → Bool) (w : ℕ) (xs : List ℕ) → count p (before w xs) ≤ count p xs
 count-before-le p w [] = omega arith

@@ -3,7 +3,7 @@
 -- Assumes nothing.
 use Prim.Native.Nat.{ℕ, suc, _+_, _-_, _%_, _≤_, _<_, min}
 use mathlib.Core.Path.{_≡_, refl, sym, ap, _∙_}
-use mathlib.Core.Bool.{Bool, true, false, _&&_}
+use mathlib.Core.Bool.{Bool, true, false, cond, _&&_}
 use mathlib.Core.Logic.{_⊎_, inl, inr, ⊎-elim}
 use mathlib.Core.List.{List, [], _∷_, _++_, append-assoc, append-nil}
 use native.Mathlib.Omega.{arith}
@@ -11,7 +11,7 @@ use native.Mathlib.Nat.{mod-eq-of-lt, mod-self, mod-lt, zero-add}
 use native.Mathlib.Numerals.{add-one}
 use lib.Dec.{ltb, eqb}
 use borrow.Author.Tests.{ltb-true, ltb-false, eq-eqb}
-use lib.ListN.{length, getD, length-take}
+use lib.ListN.{length, getD, length-append, length-take}
 use Rattle.rules.specs.declared.Head.{Head}
 use Rattle.rules.specs.declared.Head.the-variants.{None, At}
 use Rattle.rules.specs.Lists.{bit, range, filter, count, member, marks, before, last}
@@ -140,6 +140,16 @@ before-low n h w l =
     ap (before w) (order-runs n h)
     ∙ Lists.before-right w (range s (n - s)) (range 0 s) (Lists.below-range w s (n - s) l)
     ∙ rw (Lists.before-range w 0 s (omega arith) (omega arith), all)
+
+-- how many stand before a station, which is its position in the order
+pub before-position : (n : ℕ) (h : Head) (w : ℕ) → w < n
+    → length (before w (order n h)) ≡ cond (ltb w (start h)) (n - start h + w) (w - start h)
+before-position n h w k =
+    let s = start h in
+    Lists.split (ltb w s)
+    (λ t.
+    rw (t, before-low n h w (ltb-true w s t), length-append (range s (n - s)) (range 0 w), Lists.length-range s (n - s), Lists.length-range 0 w))
+    (λ f. rw (f, before-high n h w (ltb-false w s f) k, Lists.length-range s (w - s)))
 
 -- fewer ask before an asking station than in all
 pub before-count : (n : ℕ) (h : Head) (p : ℕ → Bool) (w : ℕ) → start h ≤ n → w < n → p w ≡ true

@@ -1,15 +1,15 @@
 -- `count_run` meets its contract: at each station the run up to it is done, and the code carries its count.
 -- Assumes nothing.
-use Prim.Native.Nat.{_≤_, _-_}
-use mathlib.Core.Path.{_≡_, refl}
+use Prim.Native.Nat.{ℕ, _≤_, _-_, min}
+use mathlib.Core.Path.{_≡_, refl, ap, _∙_}
 use mathlib.Core.Logic.{⊎-elim}
 use mathlib.Core.Bool.{true}
 use native.Mathlib.Omega.{arith}
 use lib.ListN.{length, length-set}
 use lib.Count.{ones}
 use borrow.Author.Needs.{needs}
-use Rattle.rules.specs.Thermometer.{isCode}
-use Rattle.rules.specs.Thermometer.Laws.{ones-code, is-code, code-few}
+use Rattle.rules.specs.Thermometer.{code, isCode}
+use Rattle.rules.specs.Thermometer.Laws.{ones-code, is-code, code-few, add-is-code}
 use Rattle.rules.specs.Walk as Walks
 use Rattle.rules.specs.Walk.Laws as Walk
 use Rattle.arbiter.specs.Decisions.{requested}
@@ -25,6 +25,10 @@ Inv-loop picks requests grants₀ from to full code₀ last₀ i₀ grants code 
 
 abbrev μ-loop : tie.MeasureT-loop
 μ-loop picks requests grants₀ from to full code₀ last₀ i₀ grants code last i = to - i
+
+-- the code of the picks
+full-code : {m : ℕ} → m ≤ 8 → code (min 8 m) ≡ code m
+full-code l = ap code (omega arith)
 
 code-requires : tie.Need-code-requires Inv-loop μ-loop
 code-requires c κs = search needs
@@ -42,7 +46,7 @@ step-requires : tie.Need-step-requires Inv-loop μ-loop
 step-requires c κs =
     let l = c .before .before .loop in
     let b = c .before .before .before .before .before .before in
-    let full = c .before .before .before .code .ensures in (
+    let full = c .before .before .before .code .ensures ∙ full-code (b .pre .1 .1 .1 .0) in (
       rw full (is-code 8 _ (b .pre .1 .1 .1 .0)),
       (rw (full, ones-code) (l .inv .3), b .pre .1 .1 .1 .1 .1 (l .i) (omega arith)),
     )
@@ -62,14 +66,14 @@ loop-again c =
     let l = s .before .before .before .loop in
     let b = s .before .before .before .before .before .before .before in
     let wire = b .pre .1 .1 .1 .1 .1 (l .i) (omega arith) in
-    let sum = rw (s .before .before .before .before .code .ensures, ones-code) at (s .step .ensures) in
+    let sum = rw (s .before .before .before .before .code .ensures ∙ full-code (b .pre .1 .1 .1 .0), ones-code) at (s .step .ensures) in
     ⊎-elim
     (λ w.
     rw (w .1, w .2, w .3, sum) (
       omega arith,
       omega arith,
       simp length-set (omega arith),
-      Steps.add-is-code _ _ _,
+      add-is-code _ _ _,
       Steps.granted _ _ _ (l .inv .3) wire _ _ _ _ _ (l .i) (l .inv .0) _ _ (l .inv .4) refl (rw sum at (w .0 .taken)) (omega arith),
     ))
     (λ w.

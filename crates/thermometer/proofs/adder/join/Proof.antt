@@ -28,7 +28,7 @@ unfolding add
 returns c =
     let two = c .before .before in
     let a = two .before .before .args in
-    let sum : two .before .count .result + two .count2 .result ≡ min (a .picks) (ones (a .left) + ones (a .right)) =
+    let sum : min 8 (two .before .count .result + two .count2 .result) ≡ min (a .picks) (ones (a .left) + ones (a .right)) =
     omega (arith, two .before .count .ensures, two .count2 .ensures, c .before .if1 .taken) in
     c .code .ensures ∙ ap code sum
 
@@ -40,7 +40,7 @@ unfolding add
 returns-2 c =
     let two = c .before .before in
     let a = two .before .before .args in
-    let most : a .picks ≡ min (a .picks) (ones (a .left) + ones (a .right)) =
+    let most : min 8 (a .picks) ≡ min (a .picks) (ones (a .left) + ones (a .right)) =
     omega (arith, two .before .count .ensures, two .count2 .ensures, c .before .if1 .left) in
     c .code2 .ensures ∙ ap code most
 

@@ -1,0 +1,6 @@
+mod Codes
+mod Counts
+mod Fill
+mod Grants
+mod Order
+mod Pieces

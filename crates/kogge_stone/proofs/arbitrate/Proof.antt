@@ -1,0 +1,145 @@
+-- `arbitrate` meets its contract.
+-- Assumes nothing.
+use Prim.Native.Nat.{ℕ, suc, _+_, _-_, _≤_, min}
+use mathlib.Core.Path.{_≡_, refl, sym, ap, _∙_}
+use mathlib.Core.Bool.{true}
+use mathlib.Core.List.{List, _∷_, _++_}
+use native.Mathlib.Omega.{arith}
+use lib.Count.{ones}
+use lib.ListN.{length, take, replicate, length-append, length-take, length-drop}
+use lib.Seq.{take-at}
+use borrow.Author.Needs.{needs}
+use Rattle.rules.specs.Thermometer.{code, isCode}
+use Rattle.rules.specs.Thermometer.Laws.{ones-code, is-code}
+use Rattle.rules.specs.KoggeStone.Laws as Network
+use Rattle.arbiter.specs.Decisions.Laws.{quiet-decides, quiet-grants}
+use Rattle.arbiter.specs.Places.{highest}
+use Rattle.kogge_stone.proofs.arbitrate.Statement.{statement}
+use Rattle.kogge_stone.proofs.arbitrate.Tie as tie
+
+-- the code of the picks
+module _ (m full : ℕ) (few : m ≤ 8) (is : full ≡ code (min 8 m)) where
+  full-code : full ≡ code m
+  full-code = is ∙ ap code (omega arith)
+
+  full-is-code : isCode 8 full ≡ true
+  full-is-code = rw full-code (is-code 8 m few)
+
+  full-ones : ones full ≡ m
+  full-ones = rw full-code (ones-code m)
+
+-- what comes out of the network with a 0 before it
+led : (n : ℕ) (net rest : List ℕ) → length net ≡ n → take (n + 1 - 0) (0 ∷ (net ++ rest)) ≡ 0 ∷ net
+led n net rest e = let more : n + 1 - 0 ≡ suc n = omega arith in rw (more, take-at net rest n e)
+
+clear-requires : tie.Need-clear-requires
+clear-requires c κs = search needs
+
+idle-requires : tie.Need-idle-requires
+idle-requires c κs = search needs
+
+same-length : tie.Need-same-length
+same-length c = search needs
+
+returns : tie.Need-returns
+returns c =
+    let k = c .before .before .before in
+    let b = k .before .before .before .before .before in
+    let a = b .args in
+    let room = b .pre .1 .1 .1 .1 .1 .1 .1 in
+    let quiet : highest (a .requests .now) ≡ 0 = sym (b .pre .1 .1 .1 .1 .1 .1 .0) ∙ k .before .before .if1 .taken in (
+      c .idle .ensures ∙ quiet-decides (a .width) (a .picks) (a .head) (a .requests .now) quiet,
+      k .clear .ensures ∙ ap (λ (i : ℕ). replicate i 0) room ∙ quiet-grants (a .width) (a .picks) (a .head) (a .requests .now) quiet,
+    )
+
+code-requires : tie.Need-code-requires
+code-requires c κs = search needs
+
+add-end : tie.Need-add-end
+add-end c = search needs
+
+sub-run : tie.Need-sub-run
+sub-run c = search needs
+
+part-counts-start : tie.Need-part-counts-start
+part-counts-start c = search needs
+
+part-counts-end : tie.Need-part-counts-end
+part-counts-end c = search needs
+
+run-requires : tie.Need-run-requires
+run-requires c κs =
+    let k = c .before in
+    let b = k .before .before .before .before in
+    let few = b .pre .1 .1 .1 .0 in
+    let size = b .pre .1 .1 .1 .1 .0 in (
+      full-is-code _ _ few (k .code .ensures),
+      (
+        omega (arith, full-ones _ _ few (k .code .ensures)),
+        (omega arith, (omega arith, (b .pre .1 .1 .1 .1 .1 .0, simp length-take (omega arith)))),
+      ),
+    )
+
+sub-read-off : tie.Need-sub-read-off
+sub-read-off c = search needs
+
+part-read-off-start : tie.Need-part-read-off-start
+part-read-off-start c = search needs
+
+part-read-off-end : tie.Need-part-read-off-end
+part-read-off-end c = simp (length-append, length-drop) (omega (arith, c .before .before .run .kept))
+
+read-off-requires : tie.Need-read-off-requires
+read-off-requires c κs =
+    let r = c .before .before .before .before in
+    let k = r .before .before in
+    let b = k .before .before .before .before in
+    let a = b .args in
+    let few = b .pre .1 .1 .1 .0 in
+    let size = b .pre .1 .1 .1 .1 .0 in (
+      full-is-code _ _ few (k .code .ensures),
+      (
+        omega arith,
+        (
+          omega arith,
+          (
+            omega arith,
+            led (a .width) _ _ (ap length (r .run .ensures) ∙ Network.network-length _ _ (a .head) _ (omega arith) ∙ size)
+                ∙ ap {B = List ℕ} (λ l. 0 ∷ l) (r .run .ensures)
+                ∙ sym (Network.counts-shifted _ _ (a .head) _),
+          ),
+        ),
+      ),
+    )
+
+same-length-2 : tie.Need-same-length-2
+same-length-2 c = search needs
+
+returns-2 : tie.Need-returns-2
+returns-2 c =
+    let o = c .before .before in
+    let k = o .before .before .before .before .before .before .before in
+    let b = k .before .before .before .before in
+    let m = full-ones _ _ (b .pre .1 .1 .1 .0) (k .code .ensures) in
+    rw (m, b .pre .1 .1 .1 .1 .0) at (o .read-off .ensures)
+
+pub arbitrate-spec : {M : Type 1} → statement M
+arbitrate-spec =
+    tie.close
+    (tie.spec
+    clear-requires
+    idle-requires
+    same-length
+    returns
+    code-requires
+    add-end
+    sub-run
+    part-counts-start
+    part-counts-end
+    run-requires
+    sub-read-off
+    part-read-off-start
+    part-read-off-end
+    read-off-requires
+    same-length-2
+    returns-2)
