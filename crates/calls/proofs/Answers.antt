@@ -31,7 +31,7 @@ use Rattle.tree.specs.Calls as Tree
 use Rattle.token_bus.specs.Calls as Bus
 use Rattle.token_bus.specs.Calls.Laws as BusLaws
 use Rattle.engines.specs.declared.Engine.{Engine}
-use Rattle.engines.specs.declared.Engine.the-variants.{Scan, Tree, Thermometer}
+use Rattle.engines.specs.declared.Engine.the-variants.{Scan, Tree, Thermometer, KoggeStone}
 use Rattle.engines.specs.Calls.Laws.{Served, engine-served}
 use Rattle.calls.specs.Answers.{Call, Made, engineCycle, busCycle, engineOpening, busOpening, cycle, imageRead, imageWrite, snapshotRead, snapshotWrite, ran, unwriting, writing, made, HeadAfter, GrantsCounted, RefusedAsGiven, PlaceZero, AdderAnswers}
 use Rattle.calls.proofs.Places.{Sparse, unless, both, size, bits, state, tree-state, bus-state, lent, write, image, snapshot}
@@ -170,6 +170,7 @@ module _ (s : State) (requests grants nodes : List ℕ) where
   asked-engine Scan = asked-scan
   asked-engine Tree = asked-tree
   asked-engine Thermometer = asked-scan
+  asked-engine KoggeStone = asked-scan
 
 asked-bus : (s : State) (requests grants : List ℕ) (byte : ℕ) → Asked (ran (busCycle s requests grants byte))
 asked-bus s requests grants byte =
@@ -194,6 +195,7 @@ asked : (c : Call) → Asked (made c)
 asked (engineOpening Scan n m h) = asked-unwriting _ _ _ (state n m h)
 asked (engineOpening Tree n m h) = asked-unwriting _ _ _ (tree-state n m h)
 asked (engineOpening Thermometer n m h) = asked-unwriting _ _ _ (state n m h)
+asked (engineOpening KoggeStone n m h) = asked-unwriting _ _ _ (state n m h)
 asked (busOpening n m h) = asked-unwriting _ _ _ (bus-state n m h)
 asked (cycle (engineCycle e s requests grants nodes)) = asked-engine s requests grants nodes e
 asked (cycle (busCycle s requests grants byte)) = asked-bus s requests grants byte

@@ -10,7 +10,7 @@ use Rattle.arbiter.specs.Cycle as RoundRobin
 use Rattle.tree.specs.Calls as Tree
 use Rattle.tree.specs.Calls.{Outcome}
 use Rattle.engines.specs.declared.Engine.{Engine}
-use Rattle.engines.specs.declared.Engine.the-variants.{Scan, Tree, Thermometer}
+use Rattle.engines.specs.declared.Engine.the-variants.{Scan, Tree, Thermometer, KoggeStone}
 pub mod Laws
 
 -- an engine's opening
@@ -18,6 +18,7 @@ abbrev pub opening : Engine → ℕ → ℕ → Head → Answer
 opening Scan n m h = RoundRobin.opening n m h
 opening Tree n m h = Tree.opening n m h
 opening Thermometer n m h = RoundRobin.opening n m h
+opening KoggeStone n m h = RoundRobin.opening n m h
 
 -- what a cycle leaves that knows no node buffer: its bytes stay
 abbrev pub withNodes : Answers.Outcome → List ℕ → Outcome
@@ -29,3 +30,4 @@ abbrev pub cycle : Engine → State → List ℕ → List ℕ → List ℕ → O
 cycle Scan s requests grants nodes = withNodes (RoundRobin.cycle s requests grants) nodes
 cycle Tree s requests grants nodes = Tree.cycle s requests grants nodes
 cycle Thermometer s requests grants nodes = withNodes (RoundRobin.cycle s requests grants) nodes
+cycle KoggeStone s requests grants nodes = withNodes (RoundRobin.cycle s requests grants) nodes

@@ -1,6 +1,7 @@
-// The plain scan, the tree and the thermometer arbiter behind one set of calls, which name the engine.
+// The plain scan, the tree, the thermometer arbiter and the Kogge-Stone arbiter behind one set of calls, which name the engine.
 use arbiter::Answer;
 use arbiter::State;
+use kogge_stone::KoggeStone;
 use scan::Scan;
 use thermometer::Thermometer;
 use tree::Tree;
@@ -13,6 +14,7 @@ pub enum Engine {
     Scan,
     Tree,
     Thermometer,
+    KoggeStone,
 }
 
 // A state that any of these engines may serve.
@@ -27,6 +29,7 @@ impl Dispatch {
             Engine::Scan => Scan::open(width, picks),
             Engine::Tree => Tree::open(width, picks),
             Engine::Thermometer => Thermometer::open(width, picks),
+            Engine::KoggeStone => KoggeStone::open(width, picks),
         }
     }
 
@@ -38,6 +41,7 @@ impl Dispatch {
             Engine::Scan => Scan::open_at(width, picks, head),
             Engine::Tree => Tree::open_at(width, picks, head),
             Engine::Thermometer => Thermometer::open_at(width, picks, head),
+            Engine::KoggeStone => KoggeStone::open_at(width, picks, head),
         }
     }
 
@@ -60,6 +64,7 @@ impl Dispatch {
             Engine::Scan => Scan(s).cycle(requests, grants),
             Engine::Tree => Tree(s).cycle(requests, grants, nodes),
             Engine::Thermometer => Thermometer(s).cycle(requests, grants),
+            Engine::KoggeStone => KoggeStone(s).cycle(requests, grants),
         }
     }
 }

@@ -22,7 +22,7 @@ use Rattle.tree.specs.Calls as Tree
 use Rattle.tree.specs.Calls.{Outcome}
 use Rattle.tree.specs.Calls.Laws as TreeLaws
 use Rattle.engines.specs.declared.Engine.{Engine}
-use Rattle.engines.specs.declared.Engine.the-variants.{Scan, Tree, Thermometer}
+use Rattle.engines.specs.declared.Engine.the-variants.{Scan, Tree, Thermometer, KoggeStone}
 use Rattle.engines.specs.Calls.{opening, cycle}
 
 -- a cycle that was served by the rule: what its state and its requests were, what it answered, and what its grant buffer holds
@@ -32,7 +32,7 @@ pub record Served (s : State) (requests : List ℕ) (answer : Answer) (grants : 
   pub answers : answer ≡ RoundRobin.answer s requests
   pub granted : grants ≡ RoundRobin.granting s requests
 
--- scan and thermometer arbiter
+-- scan, thermometer arbiter and Kogge-Stone arbiter
 cycle-served : (s : State) (requests former : List ℕ)
     → let o = RoundRobin.cycle s requests former in o .answer .number ≡ 0 → Served s requests (o .answer) (o .written)
 cycle-served s requests former z =
@@ -92,6 +92,7 @@ pub engine-served : (e : Engine) (s : State) (requests former nodes : List ℕ)
 engine-served Scan s requests former nodes z = cycle-served s requests former z
 engine-served Tree s requests former nodes z = tree-served s requests former nodes z
 engine-served Thermometer s requests former nodes z = cycle-served s requests former z
+engine-served KoggeStone s requests former nodes z = cycle-served s requests former z
 
 -- or changes nothing
 pub engine-refused : (e : Engine) (s : State) (requests former nodes : List ℕ)
@@ -100,6 +101,7 @@ pub engine-refused : (e : Engine) (s : State) (requests former nodes : List ℕ)
 engine-refused Scan s requests former nodes n = let u = writes-refused _ s _ _ former refl n in (u .0, u .1, refl)
 engine-refused Tree s requests former nodes n = tree-refused s requests former nodes n
 engine-refused Thermometer s requests former nodes n = let u = writes-refused _ s _ _ former refl n in (u .0, u .1, refl)
+engine-refused KoggeStone s requests former nodes n = let u = writes-refused _ s _ _ former refl n in (u .0, u .1, refl)
 
 -- a state that an engine opens with any head, buffers of the right lengths and bytes that are bits: it serves the cycle
 module _ (s : State) (k : Head) (requests former nodes : List ℕ) (head : start (s .head) < s .width)
@@ -131,6 +133,7 @@ module _ (s : State) (k : Head) (requests former nodes : List ℕ) (head : start
   engine-serves Scan z = cycle-serves z
   engine-serves Tree z = tree-serves z
   engine-serves Thermometer z = cycle-serves z
+  engine-serves KoggeStone z = cycle-serves z
 
 -- whatever serves a cycle, the scan opens the state
 pub engine-opens : (s : State) → Asked.Allowed (s .width) (s .picks) (s .head) → (opening Scan (s .width) (s .picks) (s .head)) .number ≡ 0
@@ -141,3 +144,4 @@ pub opens-allowed : (e : Engine) (n m : ℕ) (h : Head) → (opening e n m h) .n
 opens-allowed Scan n m h z = Asked.allowed n m h (opened-passed _ n m h z)
 opens-allowed Tree n m h z = as-allowed (TreeLaws.allowed n m h (opened-passed _ n m h z))
 opens-allowed Thermometer n m h z = Asked.allowed n m h (opened-passed _ n m h z)
+opens-allowed KoggeStone n m h z = Asked.allowed n m h (opened-passed _ n m h z)

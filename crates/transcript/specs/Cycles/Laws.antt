@@ -34,7 +34,7 @@ use Rattle.tree.specs.Calls.Laws as TreeLaws
 use Rattle.token_bus.specs.Calls as Bus
 use Rattle.token_bus.specs.Calls.Laws as BusLaws
 use Rattle.transcript.specs.declared.first_line.Kind.{Kind}
-use Rattle.engines.specs.declared.Engine.the-variants.{Scan, Tree, Thermometer}
+use Rattle.engines.specs.declared.Engine.the-variants.{Scan, Tree, Thermometer, KoggeStone}
 use Rattle.transcript.specs.declared.first_line.Kind.the-variants.{RoundRobin, TokenBus}
 use Rattle.transcript.specs.Lines.Laws.{totalLength}
 use Rattle.transcript.specs.Cycles.{opening, wellFormed, wire, called, cycle, refusedWord, refusal, granted, printed, run}
@@ -213,6 +213,7 @@ module _ (s : State) (requests : List ℕ) where
   called-printable (RoundRobin Scan) byte = scan-printable
   called-printable (RoundRobin Tree) byte = tree-printable (replicate (2 * s .width) 0)
   called-printable (RoundRobin Thermometer) byte = scan-printable
+  called-printable (RoundRobin KoggeStone) byte = scan-printable
   called-printable TokenBus byte = bus-printable byte
 
 pub bus-formed : (n : ℕ) (line : List ℕ) → wellFormed TokenBus n line ≡ true → length line ≡ n + 2
@@ -336,6 +337,7 @@ opening-small (RoundRobin Scan) n m = opened-small _ n m None (then-small (then-
 opening-small (RoundRobin Tree) n m =
     opened-small _ n m None (then-small (then-small (then-small (width-small n) (tree-width-small n)) (one-pick-small m)) (head-small n None))
 opening-small (RoundRobin Thermometer) n m = opened-small _ n m None (then-small (then-small (width-small n) (picks-small n m)) (head-small n None))
+opening-small (RoundRobin KoggeStone) n m = opened-small _ n m None (then-small (then-small (width-small n) (picks-small n m)) (head-small n None))
 opening-small TokenBus n m = opened-small _ n m (At 0) (then-small (then-small (width-small n) (one-pick-small m)) (token-small n (At 0)))
 
 opened-wide : (v : Verdict) (n m : ℕ) (h : Head) → (v .number ≡ 0 → n ≤ Questions.maxWidth)
@@ -347,4 +349,5 @@ pub opening-wide : (e : Kind) (n m : ℕ) → (opening e n m) .state .width ≤ 
 opening-wide (RoundRobin Scan) n m = opened-wide _ n m None (λ z. Questions·Laws.allowed n m None z .most)
 opening-wide (RoundRobin Tree) n m = opened-wide _ n m None (λ z. TreeLaws.allowed n m None z .most)
 opening-wide (RoundRobin Thermometer) n m = opened-wide _ n m None (λ z. Questions·Laws.allowed n m None z .most)
+opening-wide (RoundRobin KoggeStone) n m = opened-wide _ n m None (λ z. Questions·Laws.allowed n m None z .most)
 opening-wide TokenBus n m = opened-wide _ n m (At 0) (λ z. BusLaws.allowed n m (At 0) z .most)
