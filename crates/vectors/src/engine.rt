@@ -1,4 +1,4 @@
-// The four engines by number, the three of the round-robin rule behind the dispatcher, and the calls by number.
+// The five engines by number, those of the round-robin rule behind the dispatcher, and the calls by number.
 use crate::compare;
 use arbiter::Answer;
 use arbiter::State;
@@ -16,7 +16,9 @@ pub(crate) const TREE: usize = 1;
 
 pub(crate) const THERMOMETER: usize = 2;
 
-pub(crate) const BUS: usize = 3;
+pub(crate) const KOGGE_STONE: usize = 3;
+
+pub(crate) const BUS: usize = 4;
 
 pub(crate) const OPEN: usize = 0;
 
@@ -45,6 +47,7 @@ fn dispatched(e: usize) -> engines::Engine {
     match e {
         TREE => engines::Engine::Tree,
         THERMOMETER => engines::Engine::Thermometer,
+        KOGGE_STONE => engines::Engine::KoggeStone,
         _ => engines::Engine::Scan,
     }
 }

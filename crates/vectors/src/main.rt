@@ -24,13 +24,15 @@ fn main() {
     documents();
     lines(
         b"scan, every input for widths 1 to 8|tree, every input for widths 2, 4 and 8|\
-        thermometer, every input for widths 1 to 8|bus, every input for widths 1 to 8|",
+        thermometer, every input for widths 1 to 8|Kogge-Stone, every input for widths 1 to 8|\
+        bus, every input for widths 1 to 8|",
         Group::Small,
         small::CASES,
     );
     lines(
         b"scan, runs on widths 1 to 256|tree, runs on widths 2 to 256|\
-        thermometer, runs on widths 1 to 256|bus, runs on widths 1 to 256|",
+        thermometer, runs on widths 1 to 256|Kogge-Stone, runs on widths 1 to 256|\
+        bus, runs on widths 1 to 256|",
         Group::Run,
         runs::CASES,
     );
@@ -38,6 +40,11 @@ fn main() {
         b"adder, all pairs of bytes for 0 to 9 picks|",
         Group::Sum,
         sums::CASES,
+    );
+    lines(
+        b"adder, codes of counts and counts of bytes|",
+        Group::Code,
+        sums::CODES,
     );
     lines(
         b"opening without a head, refusals|opening with a head, refusals|cycle, refusals|\

@@ -41,8 +41,8 @@ const STATE: usize = WIDTH | PICKS | HEAD;
 // The byte with which buffers are filled that a refused call must leave alone.
 const KEPT: u8 = 7;
 
-// 3 variants, 16,384 sets of faults, 4 engines. The calls that are no engine's are made with the first of these.
-pub(crate) const CASES: usize = 3 * 16384 * 4;
+// 3 variants, 16,384 sets of faults, 5 engines. The calls that are no engine's are made with the first of these.
+pub(crate) const CASES: usize = 3 * 16384 * 5;
 
 // A set of faults, in one variant.
 struct Faults {
@@ -107,15 +107,15 @@ fn asked(call: usize) -> usize {
     }
 }
 
-// The questions that only the tree asks, and only the bus, by 4 × call + engine: opening without a head, opening with one by the
+// The questions that only the tree asks, and only the bus, by 5 × call + engine: opening without a head, opening with one by the
 // tree, and the cycle.
 fn engine_asks(call: usize, e: usize) -> usize {
-    match 4 * (call % 8) + e % 4 {
+    match 5 * (call % 8) + e % 5 {
         1 => TREE_WIDTH,
-        3 => HEAD,
-        5 => TREE_WIDTH,
-        9 => TREE_WIDTH | NODES,
-        11 => ACKNOWLEDGE,
+        4 => HEAD,
+        6 => TREE_WIDTH,
+        11 => TREE_WIDTH | NODES,
+        14 => ACKNOWLEDGE,
         _ => 0,
     }
 }

@@ -1,4 +1,4 @@
-// Runs on many widths against the model: requests, heads and picks come from a generator, and each cycle starts from the state
+// Runs on every width against the model: requests, heads and picks come from a generator, and each cycle starts from the state
 // that the last one left.
 use crate::engine;
 use crate::model;
@@ -9,31 +9,11 @@ use crate::walk::Progress;
 use arbiter::State;
 use rules::Head;
 
-const WIDTHS: [usize; 17] = [
-    1,
-    2,
-    4,
-    5,
-    8,
-    9,
-    16,
-    17,
-    32,
-    64,
-    97,
-    128,
-    129,
-    199,
-    251,
-    255,
-    256,
-];
-
-// 64 cycles, 3 runs, 17 widths.
-pub(crate) const CASES: usize = 64 * 3 * 17;
+// 64 cycles, 3 runs, 256 widths.
+pub(crate) const CASES: usize = 64 * 3 * 256;
 
 pub(crate) fn case(e: usize, i: usize, p: Progress) -> Progress {
-    let width = WIDTHS[i / 192 % 17];
+    let width = i / 192 % 256 + 1;
     let most = engine::most_picks(e, width);
     if most == 0 {
         return p;

@@ -1,8 +1,13 @@
-// The saturated adder: known sums, 001's truth table, and every pair of bytes against the model.
+// The saturated adder: known sums, 001's truth table, and every pair of bytes against the model; and codes and counts.
 use crate::compare;
+use crate::engine;
 use crate::report::Outcome;
+use crate::small;
 use reference::codes;
 use thermometer::adder;
+ghost use mathlib.Core.Path.{_≡_};
+ghost use Prim.Native.Nat.{_<_};
+ghost use lib.ListN.{length};
 
 // 9 rows of 001's truth table of the adder saturated at 2, in its rows of legal codes, with each code that an X stands for; then
 // 01's 4 known sums with 2 picks, the last two refused. The codes are 0 for 00, 1 for 01 and 3 for 11; 2, which is 10, is none.
@@ -36,6 +41,29 @@ pub(crate) fn case(i: usize) -> Outcome {
     let a = adder::add(picks, left, right);
     let code = codes::sum(picks, left, right);
     Outcome::Ran(compare::sum(a, number(picks, left, right), code))
+}
+
+// Counts from 0 on, and bytes.
+pub(crate) const CODES: usize = 256;
+
+// Whether the code of a count is a code of that many, or of 8, and whether a byte counts its ones.
+pub(crate) fn code(i: usize) -> Outcome {
+    let byte = (i % 256) as u8;
+    let code = adder::code(i);
+    let coded = codes::is_code(8, code) & (adder::count(code) == engine::lesser(i, 8));
+    Outcome::Ran(coded & (adder::count(byte) == ones(small::spread(i % 256))))
+}
+
+fn ones(bits: [u8; 8]) -> usize
+    requires { ⌜ 8 ≡ length bits ⌝ }
+{
+    half(bits[0], bits[1], bits[2], bits[3]) + half(bits[4], bits[5], bits[6], bits[7])
+}
+
+fn half(a: u8, b: u8, c: u8, d: u8) -> usize
+    ensures { λ r. ⌜ r < 1021 ⌝ }
+{
+    (a as usize) + (b as usize) + (c as usize) + (d as usize)
 }
 
 // The number of the refusal, by the model.

@@ -21,6 +21,7 @@ pub enum Group {
     Small,
     Run,
     Sum,
+    Code,
     Refusal,
     Conversion,
 }
@@ -88,6 +89,7 @@ fn case(group: Group, which: usize, i: usize, p: Progress) -> Progress {
         Group::Small => small::case(which, i),
         Group::Run => return runs::case(which, i, p),
         Group::Sum => sums::case(i),
+        Group::Code => sums::code(i),
         Group::Refusal => refusals::case(which, i),
         Group::Conversion => conversions::case(which, i),
     };
