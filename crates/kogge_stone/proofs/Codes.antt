@@ -8,15 +8,16 @@ use native.Mathlib.Omega.{arith}
 use native.Mathlib.Nat.{mul-le-mul-left, mul-suc}
 use lib.Count.{ones}
 use lib.Dec.{ltb}
-use lib.ListN.{length, getD}
+use lib.ListN.{length, getD, List·getD-eq-default}
 use lib.Pow.{ones-split, suc-ones}
 use borrow.Author.Tests.{ltb-true, lt-ltb, ltb-false, le-ltb}
 use Rattle.rules.specs.Thermometer.{code, isCode, add}
-use Rattle.rules.specs.Thermometer.Laws.{code-own, code-below, add-is-code}
+use Rattle.rules.specs.Thermometer.Laws.{code-own, code-below, add-is-code, zero-is-code}
 use Rattle.rules.specs.Lists.Laws as Lists
 use Rattle.rules.specs.KoggeStone.{joined}
 use Rattle.rules.specs.KoggeStone.Laws as Network
 use Rattle.kogge_stone.specs.Steps.{Codes}
+use Rattle.kogge_stone.proofs.Fill.{Filled}
 
 -- the product of two bytes
 pub product-fits : (a b : ℕ) → a < 256 → b < 256 → a * b ≤ a * 255
@@ -56,3 +57,23 @@ joined-codes m d codes all p l =
     Lists.split (ltb p d)
     (λ t. rw (Network.joined-near m d codes p u (ltb-true p d t)) (all p u))
     (λ f. rw (Network.joined-far m d codes p u (ltb-false p d f)) (add-is-code m (getD codes (p - d) 0) (getD codes p 0)))
+
+-- past the last byte a 0 is read, which is a code too
+pub every-code : (m : ℕ) (bytes : List ℕ) → Codes m bytes → (q : ℕ) → isCode m (getD bytes q 0) ≡ true
+every-code m bytes all q =
+    Lists.split (ltb q (length bytes))
+    (λ t. all q (ltb-true q (length bytes) t))
+    (λ f. rw (List·getD-eq-default bytes 0 (ltb-false q (length bytes) f)) (zero-is-code m))
+
+-- a buffer that is being filled with joined codes
+pub filling-codes : (m d p : ℕ) (before codes : List ℕ) → Codes m before → Filled (joined m d before) before p codes → (q : ℕ)
+    → isCode m (getD codes q 0) ≡ true
+filling-codes m d p before codes all f = every-code m codes at
+  where
+    at : Codes m codes
+    at q l =
+        Lists.split (ltb q p)
+        (λ t.
+        let u : q < length before = omega (arith, f .long) in
+        rw (f .done q (ltb-true q p t) u) (every-code m (joined m d before) (joined-codes m d before all) q))
+        (λ n. rw (f .kept q (ltb-false q p n)) (every-code m before all q))

@@ -2,13 +2,18 @@
 -- Assumes nothing.
 use Prim.Native.Nat.{ℕ, zero, suc, _+_, _-_, _≤_, _<_}
 use mathlib.Core.Path.{_≡_, refl, sym, ap, ap₂, _∙_}
-use mathlib.Core.List.{List, _∷_, _++_, map}
+use mathlib.Core.List.{List, _∷_, _++_, map, append-nil}
 use native.Mathlib.Omega.{arith}
-use lib.ListN.{length, getD, take, drop, length-drop}
+use lib.Dec.{leb}
+use lib.ListN.{length, getD, take, drop, length-drop, drop-of-length-le}
 use lib.Seq.{drop-cons, take-all}
+use borrow.Author.Tests.{leb-true, leb-false}
 use Rattle.rules.specs.declared.Head.{Head}
+use Rattle.rules.specs.declared.Head.the-variants.{None, At}
 use Rattle.rules.specs.Lists.{range}
+use Rattle.rules.specs.Lists.Laws as Lists
 use Rattle.rules.specs.RoundRobin.{start}
+use Rattle.rules.specs.RoundRobin.Laws.{start-none, start-at}
 use Rattle.rules.specs.KoggeStone.{distances, levels, input, inputs, network}
 use Rattle.rules.specs.KoggeStone.Laws.{inputs-runs, inputs-codes, network-levels}
 use Rattle.rules.specs.Thermometer.Laws.{code-bit}
@@ -33,15 +38,23 @@ module _ (m : ℕ) (requests : List ℕ) (some : 1 ≤ m) (wires : Bits requests
       let high = run s (n - s) (omega arith) ∙ take-all (n - s) (drop s requests) (simp length-drop (omega arith)) in
       sym (inputs-runs n m h (requested requests) ∙ ap₂ {C = List ℕ} (λ (x y : List ℕ). x ++ y) high (run 0 s (omega arith)))
 
-  -- the codes before the first joining, in an order that starts at `first`
-  module _ (h : Head) (l : start h ≤ length requests) (first : ℕ) (codes : List ℕ) (e : first ≡ start h)
-      (rotated : codes ≡ drop first requests ++ take first requests) where
-    go-in : codes ≡ inputs (length requests) m h (requested requests)
-    go-in = rotated ∙ rw e (ordered h l)
-
+  -- the requests in an order that starts at any station
+  module _ (f : ℕ) (codes : List ℕ) (rotated : codes ≡ drop f requests ++ take f requests) where
+    -- are codes
     pub codes-in : Codes m codes
-    codes-in = rw go-in (inputs-codes (length requests) m h (requested requests))
+    codes-in =
+        Lists.split (leb f (length requests))
+        (λ t.
+        let l = leb-true f (length requests) t in
+        rw (rotated ∙ (rw start-at at (ordered (At f) (rw start-at l)))) (inputs-codes (length requests) m (At f) (requested requests)))
+        (λ n.
+        let l : length requests ≤ f = omega (arith, leb-false f (length requests) n) in
+        let same : codes ≡ requests = rotated ∙ rw (drop-of-length-le requests l, take-all f requests l) in
+        rw (same ∙ sym (append-nil requests) ∙ (rw start-none at (ordered None (rw start-none (omega arith))))) (inputs-codes (length requests) m None (requested requests)))
 
-    -- and after the last
-    pub come-out : {out : List ℕ} → out ≡ levels m (distances (length codes)) codes → out ≡ network (length requests) m h (requested requests)
-    come-out out = out ∙ rw go-in (network-levels (length requests) m h (requested requests) l)
+    -- and where it starts at the first, this comes out
+    pub come-out : (h : Head) → start h ≤ length requests → f ≡ start h → {out : List ℕ} → out ≡ levels m (distances (length codes)) codes
+        → out ≡ network (length requests) m h (requested requests)
+    come-out h l e out =
+        let go-in : codes ≡ inputs (length requests) m h (requested requests) = rotated ∙ rw e (ordered h l) in
+        out ∙ rw go-in (network-levels (length requests) m h (requested requests) l)

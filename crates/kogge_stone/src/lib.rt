@@ -115,10 +115,10 @@ fn read_off(full: u8, head: Head, requests: &[u8], counts: &[u8], grants: &mut [
     ensures { λ _. ⌜ now (grants .exit) ≡ RoundRobin.grants (length (now (requests .entry))) (ones full) head (requested (now (requests .entry))) ⌝ }
 {
     let width = requests.len();
+    let end = width + 1;
     let first = first_station(head);
     grant_round(full, first, requests, &counts[0..width], grants);
     let total = counts[width];
-    let end = width + 1;
     let position = first_place(total, &counts[1..end]);
     let last = station(width, first, position);
     decide(width, head, adder::count(total), last)

@@ -11,6 +11,7 @@ use Rattle.rules.specs.Lists.{bit, range, filter, before}
 use Rattle.rules.specs.RoundRobin.{order}
 use Rattle.rules.specs.Thermometer.{code, add}
 pub mod Laws
+mod Known
 
 -- N1's "distances 1, 2, 4 and so on until N is reached": the powers of two below n
 pub distances : ℕ → List ℕ

@@ -32,15 +32,6 @@ module _ (m full : ℕ) (few : m ≤ 8) (is : full ≡ code (min 8 m)) where
 led : (n : ℕ) (net rest : List ℕ) → length net ≡ n → take (n + 1 - 0) (0 ∷ (net ++ rest)) ≡ 0 ∷ net
 led n net rest e = let more : n + 1 - 0 ≡ suc n = omega arith in rw (more, take-at net rest n e)
 
-clear-requires : tie.Need-clear-requires
-clear-requires c κs = search needs
-
-idle-requires : tie.Need-idle-requires
-idle-requires c κs = search needs
-
-same-length : tie.Need-same-length
-same-length c = search needs
-
 returns : tie.Need-returns
 returns c =
     let k = c .before .before .before in
@@ -51,21 +42,6 @@ returns c =
       c .idle .ensures ∙ quiet-decides (a .width) (a .picks) (a .head) (a .requests .now) quiet,
       k .clear .ensures ∙ ap (λ (i : ℕ). replicate i 0) room ∙ quiet-grants (a .width) (a .picks) (a .head) (a .requests .now) quiet,
     )
-
-code-requires : tie.Need-code-requires
-code-requires c κs = search needs
-
-add-end : tie.Need-add-end
-add-end c = search needs
-
-sub-run : tie.Need-sub-run
-sub-run c = search needs
-
-part-counts-start : tie.Need-part-counts-start
-part-counts-start c = search needs
-
-part-counts-end : tie.Need-part-counts-end
-part-counts-end c = search needs
 
 run-requires : tie.Need-run-requires
 run-requires c κs =
@@ -79,12 +55,6 @@ run-requires c κs =
         (omega arith, (omega arith, (b .pre .1 .1 .1 .1 .1 .0, simp length-take (omega arith)))),
       ),
     )
-
-sub-read-off : tie.Need-sub-read-off
-sub-read-off c = search needs
-
-part-read-off-start : tie.Need-part-read-off-start
-part-read-off-start c = search needs
 
 part-read-off-end : tie.Need-part-read-off-end
 part-read-off-end c = simp (length-append, length-drop) (omega (arith, c .before .before .run .kept))
@@ -112,9 +82,6 @@ read-off-requires c κs =
       ),
     )
 
-same-length-2 : tie.Need-same-length-2
-same-length-2 c = search needs
-
 returns-2 : tie.Need-returns-2
 returns-2 c =
     let o = c .before .before in
@@ -125,21 +92,7 @@ returns-2 c =
 
 pub arbitrate-spec : {M : Type 1} → statement M
 arbitrate-spec =
-    tie.close
-    (tie.spec
-    clear-requires
-    idle-requires
-    same-length
-    returns
-    code-requires
-    add-end
-    sub-run
-    part-counts-start
-    part-counts-end
-    run-requires
-    sub-read-off
-    part-read-off-start
-    part-read-off-end
-    read-off-requires
-    same-length-2
-    returns-2)
+    let one = tie.spec (λ c κs. search needs) (λ c κs. search needs) (λ c. search needs) returns in
+    let two = one (λ c κs. search needs) (λ c. search needs) (λ c. search needs) (λ c. search needs) in
+    let three = two (λ c. search needs) run-requires (λ c. search needs) (λ c. search needs) part-read-off-end in
+    tie.close (three read-off-requires (λ c. search needs) returns-2)

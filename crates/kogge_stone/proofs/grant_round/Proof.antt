@@ -10,73 +10,6 @@ use Rattle.kogge_stone.proofs.Grants as Grants
 use borrow.Author.Needs.{needs}
 use Rattle.kogge_stone.proofs.grant_round.Statement.{statement}
 use Rattle.kogge_stone.proofs.grant_round.Tie as tie
-use Rattle.kogge_stone.proofs.grant_run.Reads as grant-run-reads
-
-sub-high : tie.Need-sub-high
-sub-high c = search needs
-
-sub-grant-run : tie.Need-sub-grant-run
-sub-grant-run c = search needs
-
-part-grant-run-start : tie.Need-part-grant-run-start
-part-grant-run-start c = search needs
-
-part-grant-run-end : tie.Need-part-grant-run-end
-part-grant-run-end c = search needs
-
-sub-grant-run-2 : tie.Need-sub-grant-run-2
-sub-grant-run-2 c = search needs
-
-part-grant-run-start-2 : tie.Need-part-grant-run-start-2
-part-grant-run-start-2 c = search needs
-
-part-grant-run-end-2 : tie.Need-part-grant-run-end-2
-part-grant-run-end-2 c = search needs
-
-sub-grant-run-3 : tie.Need-sub-grant-run-3
-sub-grant-run-3 c = search needs
-
-part-grant-run-start-3 : tie.Need-part-grant-run-start-3
-part-grant-run-start-3 c = search needs
-
-part-grant-run-end-3 : tie.Need-part-grant-run-end-3
-part-grant-run-end-3 c = search needs
-
-grant-run-requires : tie.Need-grant-run-requires
-grant-run-requires c κs = search needs
-
-sub-grant-run-4 : tie.Need-sub-grant-run-4
-sub-grant-run-4 c = search needs
-
-part-grant-run-start-4 : tie.Need-part-grant-run-start-4
-part-grant-run-start-4 c = search needs
-
-part-grant-run-end-4 : tie.Need-part-grant-run-end-4
-part-grant-run-end-4 c = search needs
-
-sub-grant-run-5 : tie.Need-sub-grant-run-5
-sub-grant-run-5 c = search needs
-
-part-grant-run-start-5 : tie.Need-part-grant-run-start-5
-part-grant-run-start-5 c = search needs
-
-part-grant-run-end-5 : tie.Need-part-grant-run-end-5
-part-grant-run-end-5 c = search needs
-
-sub-grant-run-6 : tie.Need-sub-grant-run-6
-sub-grant-run-6 c = search needs
-
-part-grant-run-start-6 : tie.Need-part-grant-run-start-6
-part-grant-run-start-6 c = search needs
-
-part-grant-run-end-6 : tie.Need-part-grant-run-end-6
-part-grant-run-end-6 c = search needs
-
-grant-run-requires-2 : tie.Need-grant-run-requires-2
-grant-run-requires-2 c κs = search needs
-
-same-length : tie.Need-same-length
-same-length c = search needs
 
 returns : tie.Need-returns
 returns c =
@@ -89,28 +22,9 @@ returns c =
 
 pub grant-round-spec : {M : Type 1} → statement M
 grant-round-spec =
-    tie.close
-    (tie.spec
-    sub-high
-    sub-grant-run
-    part-grant-run-start
-    part-grant-run-end
-    sub-grant-run-2
-    part-grant-run-start-2
-    part-grant-run-end-2
-    sub-grant-run-3
-    part-grant-run-start-3
-    part-grant-run-end-3
-    grant-run-requires
-    sub-grant-run-4
-    part-grant-run-start-4
-    part-grant-run-end-4
-    sub-grant-run-5
-    part-grant-run-start-5
-    part-grant-run-end-5
-    sub-grant-run-6
-    part-grant-run-start-6
-    part-grant-run-end-6
-    grant-run-requires-2
-    same-length
-    returns)
+    let one = tie.spec (λ c. search needs) (λ c. search needs) (λ c. search needs) (λ c. search needs) in
+    let two = one (λ c. search needs) (λ c. search needs) (λ c. search needs) (λ c. search needs) in
+    let three = two (λ c. search needs) (λ c. search needs) (λ c κs. search needs) (λ c. search needs) in
+    let four = three (λ c. search needs) (λ c. search needs) (λ c. search needs) (λ c. search needs) in
+    let five = four (λ c. search needs) (λ c. search needs) (λ c. search needs) (λ c. search needs) in
+    tie.close (five (λ c κs. search needs) (λ c. search needs) returns)

@@ -5,12 +5,6 @@ use borrow.Author.Needs.{needs}
 use Rattle.kogge_stone.proofs.station.Statement.{statement}
 use Rattle.kogge_stone.proofs.station.Tie as tie
 
-sub-high : tie.Need-sub-high
-sub-high c = search needs
-
-add-result : tie.Need-add-result
-add-result c = search needs
-
 returns : tie.Need-returns
 returns c = rw (lt-ltb _ _ (c .if1 .taken))
 
@@ -18,4 +12,5 @@ returns-2 : tie.Need-returns-2
 returns-2 c = rw (le-ltb _ _ (c .if1 .left))
 
 pub station-spec : {M : Type 1} → statement M
-station-spec = tie.close (tie.spec sub-high add-result returns returns-2)
+station-spec =
+    tie.close (tie.spec (λ c. search needs) (λ c. search needs) returns returns-2)

@@ -15,9 +15,6 @@ add-sum c = let a = c .args in omega (arith, product-fits (a .left) (a .right) (
 add-sum-2 : tie.Need-add-sum-2
 add-sum-2 c = let a = c .args in omega (arith, product-fits (a .left) (a .right) (omega (arith, c)) (omega (arith, c)))
 
-cast-result : tie.Need-cast-result
-cast-result c = search needs
-
 returns : tie.Need-returns
 returns c = let b = c .before in small _ _ _ (b .pre .0) (b .pre .1 .0) (b .pre .1 .1) (c .if1 .taken)
 
@@ -25,4 +22,5 @@ returns-2 : tie.Need-returns-2
 returns-2 c = let b = c .before in large _ _ _ (b .pre .0) (b .pre .1 .0) (b .pre .1 .1) (c .if1 .left)
 
 pub join-spec : {M : Type 1} → statement M
-join-spec = tie.close (tie.spec mul-sum add-sum add-sum-2 cast-result returns returns-2)
+join-spec =
+    tie.close (tie.spec mul-sum add-sum add-sum-2 (λ c. search needs) returns returns-2)

@@ -9,6 +9,7 @@ use borrow.Author.Needs.{needs}
 use Rattle.rules.specs.KoggeStone.{joined}
 use Rattle.rules.specs.KoggeStone.Laws as Network
 use Rattle.rules.specs.Thermometer.{add}
+use Rattle.kogge_stone.proofs.Codes.{every-code, filling-codes}
 use Rattle.kogge_stone.proofs.Fill as Fill
 use Rattle.kogge_stone.proofs.Fill.{Filled}
 use Rattle.kogge_stone.proofs.network.join_at.Statement.{statement}
@@ -25,34 +26,14 @@ loop-holds c =
     let b = c .before .before in
     (omega arith, rw (b .pre .1 .1) (Fill.begin _ _ _ (λ q near l. sym (Network.joined-near _ _ _ q l near))))
 
-sub-join : tie.Need-sub-join Inv-loop μ-loop
-sub-join c = search needs
-
-shared-slice-read-join : tie.Need-shared-slice-read-join Inv-loop μ-loop
-shared-slice-read-join c = omega (arith, c .before .before .loop .inv .1 .long)
-
-slice-read-join : tie.Need-slice-read-join Inv-loop μ-loop
-slice-read-join c = search needs
-
+-- both lists are codes at every place, so a join may read either
 join-requires : tie.Need-join-requires Inv-loop μ-loop
 join-requires c κs =
     let l = c .before .before .before .loop in
-    let b = c .before .before .before .before .before .before in (
-      b .pre .0,
-      (
-        b .pre .1 .0 _ (omega (arith, l .inv .1 .long)),
-        rw (l .inv .1 .kept (l .p) (omega arith)) (b .pre .1 .0 _ (omega (arith, l .inv .1 .long))),
-      ),
-    )
-
-slice-write-codes : tie.Need-slice-write-codes Inv-loop μ-loop
-slice-write-codes c = search needs
-
-add-p : tie.Need-add-p Inv-loop μ-loop
-add-p c = search needs
-
-loop-less : tie.Need-loop-less Inv-loop μ-loop
-loop-less c = simp length-set (omega arith)
+    let b = c .before .before .before .before .before .before in
+    let were = every-code (ones (b .args .full)) (b .args .before .now) (b .pre .1 .0) in
+    let are = filling-codes (ones (b .args .full)) (b .args .distance) (l .p) (b .args .before .now) (l .codes) (b .pre .1 .0) (l .inv .1) in
+    (b .pre .0, (simp (were, are), simp (were, are)))
 
 loop-again : tie.Need-loop-again Inv-loop μ-loop
 loop-again c =
@@ -73,18 +54,7 @@ returns c =
 
 pub join-at-spec : {M : Type 1} → statement M
 join-at-spec =
-    tie.close
-    (tie.spec
-    Inv-loop
-    μ-loop
-    loop-holds
-    sub-join
-    shared-slice-read-join
-    slice-read-join
-    join-requires
-    slice-write-codes
-    add-p
-    loop-less
-    loop-again
-    same-length
-    returns)
+    let first = tie.spec Inv-loop μ-loop loop-holds (λ c. search needs) in
+    let reads = first (λ c. omega (arith, c .before .before .loop .inv .1 .long)) (λ c. search needs) join-requires in
+    let writes = reads (λ c. search needs) (λ c. search needs) (λ c. simp length-set (omega arith)) in
+    tie.close (writes loop-again same-length returns)
