@@ -1,5 +1,5 @@
--- Opening and one cycle by the round-robin rule: what 01 has a plain scan or a thermometer arbiter do with any input. The
--- tree grants by the same rule.
+-- Opening and one cycle by the round-robin rule: what 01 has a plain scan or a thermometer arbiter do with any input, and 02, N1, a
+-- Kogge-Stone arbiter. The tree grants by the same rule.
 -- Assumes nothing.
 use Prim.Native.Nat.{ℕ}
 use mathlib.Core.Bool.{Bool}

@@ -89,7 +89,7 @@ impl Answer {
         }.refused(verdict)
     }
 
-    // The opening of a plain scan or a thermometer arbiter. Asks 1, 3 and 4.
+    // The opening of a plain scan, a thermometer arbiter or a Kogge-Stone arbiter. Asks 1, 3 and 4.
     pub fn open(width: usize, picks: usize, head: Head) -> Answer
         ensures { λ r. ⌜ r ≡ Cycle.opening width picks head ⌝ }
     {

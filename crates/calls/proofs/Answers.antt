@@ -104,7 +104,7 @@ bus-counted s requests byte o r =
 
 -- the cycles
 module _ (s : State) (requests grants nodes : List ℕ) where
-  -- scan and thermometer arbiter
+  -- scan, thermometer arbiter and Kogge-Stone arbiter
   abbrev verdict : Verdict
   verdict = RoundRobin.questions s requests (length grants)
 

@@ -69,7 +69,7 @@ read s c = record { picks = s .picks; asks = λ w. asks w c; grants = λ w. gran
 abbrev pub headAfter : State → Head → Made By → Head
 headAfter s h c = nextHead (s .width) h (read s c)
 
--- the served calls of a list by the three follow one another
+-- the served calls of a list by the engines of the rule follow one another
 pub cycles : (s : State) (calls : List (Call By)) → Chain (Right s) (headAfter s) (s .head) (served (run cycle s calls))
 cycles s calls =
     follows cycle s (Right s) (headAfter s)

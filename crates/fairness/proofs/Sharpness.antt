@@ -137,7 +137,7 @@ module _ {How : Type 0} (leaves : How → State → List ℕ → List ℕ → Ou
           let r = passes h g (omega arith) in
           rw (r .0) (omega (arith, repeated-passes k (next h) (serves h g .2) (omega (arith, r .1))))
 
--- the three engines: one of them that serves the state
+-- the engines of the rule: one of them that serves the state
 module _ (s : State) (e : Engine) (opens : Serves e s) where
   abbrev call : Call By
   call = record {

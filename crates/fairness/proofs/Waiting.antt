@@ -1,4 +1,4 @@
--- The wait rule over every list of calls. By the three engines: the served ones are cycles of the round-robin rule, for which it
+-- The wait rule over every list of calls. By the engines of the rule: the served ones are cycles of the round-robin rule, for which it
 -- is proved in Cycles. On the bus: from the laws of the bus's rule.
 -- Assumes nothing.
 use Prim.Native.Nat.{ℕ, zero, suc, _+_, _-_, _*_, _%_, _≤_, _<_}

@@ -15,8 +15,8 @@ use Rattle.engines.specs.declared.Engine.{Engine}
 use Rattle.engines.specs.Calls as Engines
 use Rattle.token_bus.specs.Calls as Bus
 
--- "each cycle of the list may be by any of the three"; with it a node buffer is lent, which holds any bytes before and which only
--- the tree looks at
+-- "each cycle of the list may be by any of the three", and by N1's engine: "The wait rule covers it too". With it a node buffer is
+-- lent, which holds any bytes before and which only the tree looks at
 pub record By : Type 0 where
   pub engine : Engine
   pub nodes : List ℕ

@@ -1,9 +1,9 @@
 -- What is read off the network's counts is what the round-robin rule grants and decides.
 -- Assumes nothing.
-use Prim.Native.Nat.{ℕ, zero, suc, _+_, _-_, _%_, _≤_, _<_}
+use Prim.Native.Nat.{ℕ, zero, suc, _+_, _-_, _<_}
 use mathlib.Core.Path.{_≡_, refl, sym, ap, ap₂, _∙_}
 use mathlib.Core.Bool.{Bool, true, _&&_}
-use mathlib.Core.List.{List, _∷_}
+use mathlib.Core.List.{List}
 use native.Mathlib.Omega.{arith}
 use native.Mathlib.Nat.{zero-add}
 use lib.Count.{ones}
@@ -12,14 +12,13 @@ use lib.ListN.{length, getD, take, drop}
 use lib.Seq.{ext-getD, getD-take, take-all}
 use borrow.Author.Tests.{ltb-true, ltb-false, lt-ltb, le-ltb}
 use Rattle.rules.specs.declared.Head.{Head}
-use Rattle.rules.specs.declared.Head.the-variants.{At}
 use Rattle.rules.specs.Lists.{bit, before}
 use Rattle.rules.specs.Lists.Laws as Lists
 use Rattle.rules.specs.RoundRobin as RoundRobin
-use Rattle.rules.specs.RoundRobin.{start, order, next}
+use Rattle.rules.specs.RoundRobin.{start, order}
 use Rattle.rules.specs.RoundRobin.Laws.{before-position, before-length}
 use Rattle.rules.specs.Thermometer as Thermometer
-use Rattle.rules.specs.Thermometer.{code, isCode, saturated}
+use Rattle.rules.specs.Thermometer.{isCode, saturated}
 use Rattle.rules.specs.Thermometer.Laws.{zero-ones, ones-code, code-own, code-below, grants-round-robin}
 use Rattle.rules.specs.KoggeStone.{network, counts}
 use Rattle.rules.specs.KoggeStone.Laws as Network

@@ -136,7 +136,8 @@ fn station(width: usize, first: usize, position: usize) -> usize
     position - high
 }
 
-// Grants by the counts before the positions.
+// Writes the grants: `counts` has the count before each position of the order that starts at station `first`. The stations from
+// there on have the first positions, and those below it the others.
 fn grant_round(full: u8, first: usize, requests: &[u8], counts: &[u8], grants: &mut [u8])
     requires { ⌜ first ≤ length (now requests) ⌝ }
     requires { ⌜ length (now counts) ≡ length (now requests) ⌝ }
@@ -159,6 +160,7 @@ fn grant_round(full: u8, first: usize, requests: &[u8], counts: &[u8], grants: &
     );
 }
 
+// Writes the grants of stations whose requests and counts stand at the same places.
 fn grant_run(full: u8, requests: &[u8], counts: &[u8], grants: &mut [u8])
     requires { ⌜ length (now requests) ≡ length (now grants) ⌝ }
     requires { ⌜ length (now counts) ≡ length (now grants) ⌝ }
@@ -171,6 +173,7 @@ fn grant_run(full: u8, requests: &[u8], counts: &[u8], grants: &mut [u8])
     }
 }
 
+// The grant byte of a station: 1 if it asks and the count before it is below the picks.
 fn grant(full: u8, request: u8, count: u8) -> u8
     ensures { λ r. ⌜ r ≡ bit (eqb request 1 && ltb count full) ⌝ }
 {
@@ -180,7 +183,7 @@ fn grant(full: u8, request: u8, count: u8) -> u8
     0
 }
 
-// The first place that holds this byte.
+// The first place that holds this byte, or how many there are where none does.
 fn first_place(byte: u8, bytes: &[u8]) -> usize
     ensures { λ r. ⌜ r ≡ length (before byte (now (bytes .entry))) ⌝ }
 {

@@ -1,7 +1,7 @@
 -- `first_place` meets its contract.
 -- Assumes nothing.
-use Prim.Native.Nat.{ℕ, suc, _+_, _-_, _≤_, _<_}
-use mathlib.Core.Path.{_≡_, refl, sym}
+use Prim.Native.Nat.{ℕ, _+_, _-_, _≤_, _<_}
+use mathlib.Core.Path.{_≡_, sym}
 use mathlib.Core.List.{List}
 use native.Mathlib.Omega.{arith}
 use native.Mathlib.Numerals.{add-one}
@@ -33,20 +33,11 @@ abbrev μ-loop : tie.MeasureT-loop
 loop-holds : tie.Need-loop-holds Inv-loop μ-loop
 loop-holds c = omega arith
 
-shared-slice-read-if1 : tie.Need-shared-slice-read-if1 Inv-loop μ-loop
-shared-slice-read-if1 c = search needs
-
 returns : tie.Need-returns Inv-loop μ-loop
 returns c =
     let l = c .before .before .before .loop in
     let a = c .before .before .before .before .args in
     omega (arith, l .inv, found (a .byte) (a .bytes .now) (l .i) (c .before .before .loop-test .taken) (c .if1 .taken))
-
-add-i : tie.Need-add-i Inv-loop μ-loop
-add-i c = search needs
-
-loop-less : tie.Need-loop-less Inv-loop μ-loop
-loop-less c = search needs
 
 loop-again : tie.Need-loop-again Inv-loop μ-loop
 loop-again c =
@@ -62,14 +53,5 @@ returns-2 c =
 
 pub first-place-spec : {M : Type 1} → statement M
 first-place-spec =
-    tie.close
-    (tie.spec
-    Inv-loop
-    μ-loop
-    loop-holds
-    shared-slice-read-if1
-    returns
-    add-i
-    loop-less
-    loop-again
-    returns-2)
+    let one = tie.spec Inv-loop μ-loop loop-holds (λ c. search needs) returns (λ c. search needs) in
+    tie.close (one (λ c. search needs) loop-again returns-2)

@@ -1,7 +1,7 @@
 -- `grant_run` meets its contract.
 -- Assumes nothing.
 use Prim.Native.Nat.{_-_}
-use mathlib.Core.Path.{refl, sym, _∙_}
+use mathlib.Core.Path.{sym, _∙_}
 use native.Mathlib.Omega.{arith}
 use lib.ListN.{length, length-set}
 use borrow.Author.Needs.{needs}
@@ -27,15 +27,6 @@ shared-slice-read-grant c = omega (arith, c .before .before .loop .inv .long)
 shared-slice-read-grant-2 : tie.Need-shared-slice-read-grant-2 Inv-loop μ-loop
 shared-slice-read-grant-2 c = omega (arith, c .before .before .before .loop .inv .long)
 
-grant-requires : tie.Need-grant-requires Inv-loop μ-loop
-grant-requires c κs = search needs
-
-slice-write-grants : tie.Need-slice-write-grants Inv-loop μ-loop
-slice-write-grants c = search needs
-
-add-i : tie.Need-add-i Inv-loop μ-loop
-add-i c = search needs
-
 loop-less : tie.Need-loop-less Inv-loop μ-loop
 loop-less c = simp length-set (omega arith)
 
@@ -52,17 +43,6 @@ returns c = let l = c .before .loop in Fill.end _ _ (l .i) _ (l .inv) (omega (ar
 
 pub grant-run-spec : {M : Type 1} → statement M
 grant-run-spec =
-    tie.close
-    (tie.spec
-    Inv-loop
-    μ-loop
-    loop-holds
-    shared-slice-read-grant
-    shared-slice-read-grant-2
-    grant-requires
-    slice-write-grants
-    add-i
-    loop-less
-    loop-again
-    same-length
-    returns)
+    let one = tie.spec Inv-loop μ-loop loop-holds shared-slice-read-grant shared-slice-read-grant-2 in
+    let two = one (λ c κs. search needs) (λ c. search needs) (λ c. search needs) loop-less loop-again same-length in
+    tie.close (two returns)

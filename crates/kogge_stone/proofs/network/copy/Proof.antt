@@ -22,12 +22,6 @@ loop-holds c = Fill.begin _ _ 0 (λ q l u. absurd (omega arith))
 shared-slice-read-to : tie.Need-shared-slice-read-to Inv-loop μ-loop
 shared-slice-read-to c = omega (arith, c .before .before .loop .inv .long)
 
-slice-write-to : tie.Need-slice-write-to Inv-loop μ-loop
-slice-write-to c = search needs
-
-add-i : tie.Need-add-i Inv-loop μ-loop
-add-i c = search needs
-
 loop-less : tie.Need-loop-less Inv-loop μ-loop
 loop-less c = simp length-set (omega arith)
 
@@ -42,15 +36,5 @@ returns c = let l = c .before .loop in Fill.end _ _ (l .i) _ (l .inv) (omega (ar
 
 pub copy-spec : {M : Type 1} → statement M
 copy-spec =
-    tie.close
-    (tie.spec
-    Inv-loop
-    μ-loop
-    loop-holds
-    shared-slice-read-to
-    slice-write-to
-    add-i
-    loop-less
-    loop-again
-    same-length
-    returns)
+    let one = tie.spec Inv-loop μ-loop loop-holds shared-slice-read-to (λ c. search needs) (λ c. search needs) in
+    tie.close (one loop-less loop-again same-length returns)

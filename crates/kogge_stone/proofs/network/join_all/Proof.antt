@@ -6,7 +6,6 @@ use mathlib.Core.List.{List}
 use native.Mathlib.Omega.{arith}
 use lib.Count.{ones}
 use lib.ListN.{length}
-use borrow.Author.Needs.{needs}
 use Rattle.rules.specs.KoggeStone.{distances, joined, levels}
 use Rattle.rules.specs.KoggeStone.Laws as Network
 use Rattle.rules.specs.KoggeStone.Laws.{Left}
@@ -80,16 +79,5 @@ returns c = let l = c .before .loop in Network.done _ _ (l .distance) _ _ (omega
 
 pub join-all-spec : {M : Type 1} → statement M
 join-all-spec =
-    tie.close
-    (tie.spec
-    Inv-loop
-    μ-loop
-    loop-holds
-    copy-requires
-    join-at-requires
-    mul-distance
-    loop-less
-    loop-again
-    same-length
-    same-length-2
-    returns)
+    let one = tie.spec Inv-loop μ-loop loop-holds copy-requires join-at-requires mul-distance loop-less in
+    tie.close (one loop-again same-length same-length-2 returns)

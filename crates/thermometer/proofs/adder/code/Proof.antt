@@ -1,7 +1,7 @@
 -- `code` meets its contract.
 -- Assumes nothing.
 use Prim.Native.Nat.{min}
-use mathlib.Core.Path.{_≡_, refl, ap, _∙_}
+use mathlib.Core.Path.{_≡_}
 use native.Mathlib.Omega.{arith}
 use lib.Pow.{pow-pos, pow-lt}
 use borrow.Author.Needs.{needs}
