@@ -4,10 +4,10 @@ use Prim.Native.Nat.{ℕ, _+_, _≤_, _<_}
 use mathlib.Core.Path.{_≡_, refl, sym, _∙_}
 use mathlib.Core.List.{List}
 use native.Mathlib.Omega.{arith}
-use lib.Dec.{eqb}
+use lib.Dec.{eqb, ltb}
 use lib.ListN.{length, getD, set, length-set}
 use lib.Seq.{getD-set-same, getD-set-other, ext-getD}
-use borrow.Author.Tests.{eqb-true, eqb-false}
+use borrow.Author.Tests.{eqb-true, eqb-false, ltb-true, ltb-false}
 use Rattle.rules.specs.Lists.Laws as Lists
 
 -- up to place i it holds what it is to hold, and from there on what it held
@@ -34,7 +34,11 @@ module _ (target old : List ℕ) (i : ℕ) where
         kept = λ q u. getD-set-other new i q v 0 (λ n. omega arith) ∙ f .kept q (omega arith);
       }
 
-  -- all places
-  pub end : (new : List ℕ) → Filled target old i new → length old ≤ i → length target ≡ length old → new ≡ target
-  end new f l e =
-      ext-getD 0 new target (f .long ∙ sym e) (λ q u. f .done q (omega (arith, f .long)) (omega (arith, f .long)))
+  -- all places that change
+  pub end : (new : List ℕ) → Filled target old i new → ((q : ℕ) → i ≤ q → q < length old → getD old q 0 ≡ getD target q 0) → length target ≡ length old
+      → new ≡ target
+  end new f same e =
+      ext-getD 0 new target (f .long ∙ sym e)
+      (λ q u.
+      let l : q < length old = omega (arith, f .long) in
+      Lists.split (ltb q i) (λ t. f .done q (ltb-true q i t) l) (λ n. let k = ltb-false q i n in f .kept q k ∙ same q k l))

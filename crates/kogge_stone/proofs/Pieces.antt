@@ -17,13 +17,6 @@ module _ (n k : ℕ) (old low high : List ℕ) (long : length old ≡ n) (l : k 
       let none : drop (n - k) rest ≡ [] = drop-of-length-le rest {i = n - k} (simp length-drop (omega arith)) in
       rw (take-at low rest k few, drop-at low rest k few, none, append-nil high)
 
-  -- or first the high one
-  pub high-first : length low ≡ k → low ++ postOf 0 (k - 0) (putMid k (n - k) old high) ≡ low ++ high
-  high-first few =
-      let all : k - 0 ≡ k = omega arith in
-      let none : drop (n - k) (drop k old) ≡ [] = drop-of-length-le (drop k old) {i = n - k} (simp length-drop (omega arith)) in
-      rw (all, drop-at (take k old) (high ++ postOf k (n - k) old) k (simp length-take (omega arith)), none, append-nil high)
-
 -- the bytes from `first` on, and then those before them
 pub rotated : (first : ℕ) (requests old : List ℕ) → first ≤ length requests → length old ≡ length requests
     → let n = length requests in

@@ -5,7 +5,7 @@ use Prim.Native.Nat.{ℕ, _+_, _-_, _<_}
 use mathlib.Core.Path.{_≡_}
 use mathlib.Core.Bool.{true, cond, _&&_}
 use mathlib.Core.List.{List, map}
-use lib.Dec.{ltb}
+use lib.Dec.{ltb, leb}
 use lib.ListN.{length, getD}
 use Rattle.rules.specs.Lists.{bit, range}
 use Rattle.rules.specs.Thermometer.{isCode}
@@ -23,8 +23,17 @@ position n first w = cond (ltb w first) (n - first + w) (w - first)
 abbrev pub station : ℕ → ℕ → ℕ → ℕ
 station n first p = cond (ltb p (n - first)) (first + p) (p - (n - first))
 
--- the grants by the counts before the positions: a station that asks is granted if the count before its position is below the code
--- of the picks
+-- station w's grant byte by the count before it, a code: 1 if it asks and the count is below `full`, the code of the picks
+abbrev pub grantOf : ℕ → List ℕ → ℕ → ℕ → ℕ
+grantOf full requests count w = bit (requested requests w && ltb count full)
+
+-- the grants of the stations from one on, of which `counts` has the count before each; the other bytes stay
+unfoldable pub grantedFrom : ℕ → ℕ → List ℕ → List ℕ → List ℕ → List ℕ
+grantedFrom full from requests counts old =
+    map (λ w. cond (leb from w && ltb w (from + length counts)) (grantOf full requests (getD counts (w - from) 0) w) (getD old w 0))
+    (range 0 (length old))
+
+-- the grants of all by the counts before the positions
 unfoldable pub granted : ℕ → ℕ → List ℕ → List ℕ → List ℕ
 granted full first requests counts =
-    map (λ w. bit (requested requests w && ltb (getD counts (position (length requests) first w) 0) full)) (range 0 (length requests))
+    map (λ w. grantOf full requests (getD counts (position (length requests) first w) 0) w) (range 0 (length requests))

@@ -16,7 +16,7 @@ use rules::Head;
 use thermometer::adder;
 ghost use mathlib.Core.Bool.{true, _&&_};
 ghost use mathlib.Core.Path.{_≡_};
-ghost use Prim.Native.Nat.{_≤_, _<_};
+ghost use Prim.Native.Nat.{_+_, _≤_, _<_};
 ghost use lib.Count.{ones};
 ghost use lib.Dec.{eqb, ltb};
 ghost use lib.ListN.{length};
@@ -146,29 +146,19 @@ fn grant_round(full: u8, first: usize, requests: &[u8], counts: &[u8], grants: &
 {
     let width = requests.len();
     let high = width - first;
-    grant_run(
-        full,
-        &requests[first..width],
-        &counts[0..high],
-        &mut grants[first..width],
-    );
-    grant_run(
-        full,
-        &requests[0..first],
-        &counts[high..width],
-        &mut grants[0..first],
-    );
+    grant_run(full, first, requests, &counts[0..high], grants);
+    grant_run(full, 0, requests, &counts[high..width], grants);
 }
 
-// Writes the grants of stations whose requests and counts stand at the same places.
-fn grant_run(full: u8, requests: &[u8], counts: &[u8], grants: &mut [u8])
-    requires { ⌜ length (now requests) ≡ length (now grants) ⌝ }
-    requires { ⌜ length (now counts) ≡ length (now grants) ⌝ }
-    ensures { λ _. ⌜ now (grants .exit) ≡ Steps.granted full 0 (now (requests .entry)) (now (counts .entry)) ⌝ }
+// Writes the grants of the stations from `from` on, of which `counts` has the count before each.
+fn grant_run(full: u8, from: usize, requests: &[u8], counts: &[u8], grants: &mut [u8])
+    requires { ⌜ from + length (now counts) ≤ length (now requests) ⌝ }
+    requires { ⌜ length (now grants) ≡ length (now requests) ⌝ }
+    ensures { λ _. ⌜ now (grants .exit) ≡ Steps.grantedFrom full from (now (requests .entry)) (now (counts .entry)) (now (grants .entry)) ⌝ }
 {
     let mut i: usize = 0;
-    while i < grants.len() {
-        grants[i] = grant(full, requests[i], counts[i]);
+    while i < counts.len() {
+        grants[from + i] = grant(full, requests[from + i], counts[i]);
         i += 1;
     }
 }

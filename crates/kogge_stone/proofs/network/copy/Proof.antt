@@ -32,7 +32,7 @@ same-length : tie.Need-same-length Inv-loop μ-loop
 same-length c = c .before .loop .inv .long
 
 returns : tie.Need-returns Inv-loop μ-loop
-returns c = let l = c .before .loop in Fill.end _ _ (l .i) _ (l .inv) (omega (arith, l .inv .long)) (omega arith)
+returns c = let l = c .before .loop in Fill.end _ _ (l .i) _ (l .inv) (λ q k u. absurd (omega (arith, l .inv .long))) (omega arith)
 
 pub copy-spec : {M : Type 1} → statement M
 copy-spec =

@@ -50,7 +50,7 @@ same-length c = omega (arith, c .before .loop .inv .1 .long, ap length (c .befor
 returns : tie.Need-returns Inv-loop μ-loop
 returns c =
     let l = c .before .loop in
-    Fill.end _ _ (l .p) _ (l .inv .1) (omega (arith, l .inv .1 .long)) (Network.joined-length _ _ _)
+    Fill.end _ _ (l .p) _ (l .inv .1) (λ q k u. absurd (omega (arith, l .inv .1 .long))) (Network.joined-length _ _ _)
 
 pub join-at-spec : {M : Type 1} → statement M
 join-at-spec =
