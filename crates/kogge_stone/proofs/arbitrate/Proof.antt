@@ -1,32 +1,18 @@
 -- `arbitrate` meets its contract.
 -- Assumes nothing.
-use Prim.Native.Nat.{ℕ, suc, _+_, _-_, _≤_, min}
+use Prim.Native.Nat.{ℕ, suc, _+_, _-_}
 use mathlib.Core.Path.{_≡_, sym, ap, _∙_}
-use mathlib.Core.Bool.{true}
 use mathlib.Core.List.{List, _∷_, _++_}
 use native.Mathlib.Omega.{arith}
-use lib.Count.{ones}
 use lib.ListN.{length, take, replicate, length-append, length-take, length-drop}
 use lib.Seq.{take-at}
 use borrow.Author.Needs.{needs}
-use Rattle.rules.specs.Thermometer.{code, isCode}
-use Rattle.rules.specs.Thermometer.Laws.{ones-code, is-code}
+use Rattle.rules.specs.Thermometer.Laws.{full-is-code, full-ones}
 use Rattle.rules.specs.KoggeStone.Laws as Network
 use Rattle.arbiter.specs.Decisions.Laws.{quiet-decides, quiet-grants}
 use Rattle.arbiter.specs.Places.{highest}
 use Rattle.kogge_stone.proofs.arbitrate.Statement.{statement}
 use Rattle.kogge_stone.proofs.arbitrate.Tie as tie
-
--- the code of the picks
-module _ (m full : ℕ) (few : m ≤ 8) (is : full ≡ code (min 8 m)) where
-  full-code : full ≡ code m
-  full-code = is ∙ ap code (omega arith)
-
-  full-is-code : isCode 8 full ≡ true
-  full-is-code = rw full-code (is-code 8 m few)
-
-  full-ones : ones full ≡ m
-  full-ones = rw full-code (ones-code m)
 
 -- what comes out of the network with a 0 before it
 led : (n : ℕ) (net rest : List ℕ) → length net ≡ n → take (n + 1 - 0) (0 ∷ (net ++ rest)) ≡ 0 ∷ net
@@ -49,9 +35,9 @@ run-requires c κs =
     let b = k .before .before .before .before in
     let few = b .pre .1 .1 .1 .0 in
     let size = b .pre .1 .1 .1 .1 .0 in (
-      full-is-code _ _ few (k .code .ensures),
+      full-is-code 8 _ _ few (k .code .ensures),
       (
-        omega (arith, full-ones _ _ few (k .code .ensures)),
+        omega (arith, full-ones 8 _ _ few (k .code .ensures)),
         (omega arith, (omega arith, (b .pre .1 .1 .1 .1 .1 .0, simp length-take (omega arith)))),
       ),
     )
@@ -67,7 +53,7 @@ read-off-requires c κs =
     let a = b .args in
     let few = b .pre .1 .1 .1 .0 in
     let size = b .pre .1 .1 .1 .1 .0 in (
-      full-is-code _ _ few (k .code .ensures),
+      full-is-code 8 _ _ few (k .code .ensures),
       (
         omega arith,
         (
@@ -87,7 +73,7 @@ returns-2 c =
     let o = c .before .before in
     let k = o .before .before .before .before .before .before .before in
     let b = k .before .before .before .before in
-    let m = full-ones _ _ (b .pre .1 .1 .1 .0) (k .code .ensures) in
+    let m = full-ones 8 _ _ (b .pre .1 .1 .1 .0) (k .code .ensures) in
     rw (m, b .pre .1 .1 .1 .1 .0) at (o .read-off .ensures)
 
 pub arbitrate-spec : {M : Type 1} → statement M

@@ -58,7 +58,18 @@ pub is-code : (m c : ℕ) → c ≤ m → isCode m (code c) ≡ true
 unfolding isCode
 is-code m c l = rw (ones-code c, eq-eqb (code c) (code c) refl) (le-leb c m l)
 
--- a sum is one
+-- the code of a count that is cut off at `most`, which cuts nothing off
+module _ (most m full : ℕ) (few : m ≤ most) (is : full ≡ code (min most m)) where
+  full-code : full ≡ code m
+  full-code = is ∙ ap code (omega arith)
+
+  pub full-is-code : isCode most full ≡ true
+  full-is-code = rw full-code (is-code most m few)
+
+  pub full-ones : ones full ≡ m
+  full-ones = rw full-code (ones-code m)
+
+-- a sum is a code
 pub add-is-code : (m a b : ℕ) → isCode m (add m a b) ≡ true
 unfolding add
 add-is-code m a b = is-code m (min m (ones a + ones b)) (omega arith)

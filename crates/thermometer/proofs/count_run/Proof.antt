@@ -1,15 +1,15 @@
 -- `count_run` meets its contract: at each station the run up to it is done, and the code carries its count.
 -- Assumes nothing.
-use Prim.Native.Nat.{ℕ, _≤_, _-_, min}
-use mathlib.Core.Path.{_≡_, refl, ap, _∙_}
+use Prim.Native.Nat.{_≤_, _-_}
+use mathlib.Core.Path.{_≡_, refl}
 use mathlib.Core.Logic.{⊎-elim}
 use mathlib.Core.Bool.{true}
 use native.Mathlib.Omega.{arith}
 use lib.ListN.{length, length-set}
 use lib.Count.{ones}
 use borrow.Author.Needs.{needs}
-use Rattle.rules.specs.Thermometer.{code, isCode}
-use Rattle.rules.specs.Thermometer.Laws.{ones-code, is-code, code-few, add-is-code}
+use Rattle.rules.specs.Thermometer.{isCode}
+use Rattle.rules.specs.Thermometer.Laws.{full-is-code, full-ones, code-few, add-is-code}
 use Rattle.rules.specs.Walk as Walks
 use Rattle.rules.specs.Walk.Laws as Walk
 use Rattle.arbiter.specs.Decisions.{requested}
@@ -25,10 +25,6 @@ Inv-loop picks requests grants₀ from to full code₀ last₀ i₀ grants code 
 
 abbrev μ-loop : tie.MeasureT-loop
 μ-loop picks requests grants₀ from to full code₀ last₀ i₀ grants code last i = to - i
-
--- the code of the picks
-full-code : {m : ℕ} → m ≤ 8 → code (min 8 m) ≡ code m
-full-code l = ap code (omega arith)
 
 code-requires : tie.Need-code-requires Inv-loop μ-loop
 code-requires c κs = search needs
@@ -46,9 +42,10 @@ step-requires : tie.Need-step-requires Inv-loop μ-loop
 step-requires c κs =
     let l = c .before .before .loop in
     let b = c .before .before .before .before .before .before in
-    let full = c .before .before .before .code .ensures ∙ full-code (b .pre .1 .1 .1 .0) in (
-      rw full (is-code 8 _ (b .pre .1 .1 .1 .0)),
-      (rw (full, ones-code) (l .inv .3), b .pre .1 .1 .1 .1 .1 (l .i) (omega arith)),
+    let few = b .pre .1 .1 .1 .0 in
+    let full = c .before .before .before .code .ensures in (
+      full-is-code 8 _ _ few full,
+      (rw (full-ones 8 _ _ few full) (l .inv .3), b .pre .1 .1 .1 .1 .1 (l .i) (omega arith)),
     )
 
 slice-write-grants : tie.Need-slice-write-grants Inv-loop μ-loop
@@ -66,7 +63,7 @@ loop-again c =
     let l = s .before .before .before .loop in
     let b = s .before .before .before .before .before .before .before in
     let wire = b .pre .1 .1 .1 .1 .1 (l .i) (omega arith) in
-    let sum = rw (s .before .before .before .before .code .ensures ∙ full-code (b .pre .1 .1 .1 .0), ones-code) at (s .step .ensures) in
+    let sum = rw (full-ones 8 _ _ (b .pre .1 .1 .1 .0) (s .before .before .before .before .code .ensures)) at (s .step .ensures) in
     ⊎-elim
     (λ w.
     rw (w .1, w .2, w .3, sum) (
