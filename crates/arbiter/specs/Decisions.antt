@@ -10,6 +10,7 @@ use Rattle.rules.specs.declared.Head.the-variants.{At}
 use Rattle.rules.specs.RoundRobin.{granted, after, next}
 use Rattle.arbiter.specs.declared.Decision.{Decision}
 pub mod Laws
+pub mod OnePick
 
 -- who asks by a buffer's bytes, "1 for asking and 0 for not": station w's byte is 1
 abbrev pub requested : List ℕ → ℕ → Bool

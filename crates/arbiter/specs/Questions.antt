@@ -1,6 +1,7 @@
--- 01, "Questions each call asks, in this order". n is the width, 01's N; m is the pick count; h is the head.
+-- 01, "Questions each call asks, in this order", and those that 02 adds. n is the width, 01's N; m is the pick count; h is the
+-- head.
 -- Assumes nothing.
-use Prim.Native.Nat.{ℕ, _*_, _^_}
+use Prim.Native.Nat.{ℕ, _*_, _/_, _^_}
 use mathlib.Core.Bool.{Bool, true, false, cond, _&&_}
 use mathlib.Core.List.{List, [], _∷_, map}
 use lib.Dec.{eqb, ltb, leb}
@@ -11,7 +12,7 @@ use Rattle.rules.specs.Lists.{range, member}
 use Rattle.rules.specs.Thermometer.{isCode}
 use Rattle.arbiter.specs.declared.question.Reading.{Reading}
 use Rattle.arbiter.specs.declared.question.Verdict.{Verdict}
-use Rattle.arbiter.specs.Places.{places, ones, highest}
+use Rattle.arbiter.specs.Places.{places, ones, setLines, highest}
 pub mod Laws
 pub mod Known
 
@@ -54,7 +55,7 @@ picks n m = refuseUnless ((leb 1 m && leb m 8) && leb m n) 3 0
 abbrev pub pickCount : ℕ → Verdict
 pickCount m = refuseUnless (leb 1 m && leb m 8) 3 0
 
--- 3 for the tree and the bus: "m is 1"
+-- 3 for the tree and the bus: "m is 1"; and for the packed scan (02, N2): "3 asks for m 1"
 abbrev pub onePick : ℕ → Verdict
 onePick m = refuseUnless (eqb m 1) 3 0
 
@@ -103,6 +104,10 @@ oneHot image = refuseAtFirst 10 (drop 1 (ones 0 image))
 -- 13: "are both codes thermometer codes for m"
 abbrev pub codes : ℕ → ℕ → ℕ → Verdict
 codes m a b = refuseUnless (isCode m a && isCode m b) 13 0
+
+-- 14 (02, N2): "with the byte's place, is a set unused bit", a line that is set and no station's
+abbrev pub unusedBits : ℕ → List ℕ → Verdict
+unusedBits n packed = refuseAtFirst 14 (map (λ i. i / 8) (setLines n packed))
 
 -- 1, 3 and 4
 abbrev pub state : ℕ → ℕ → Head → Verdict

@@ -1,4 +1,4 @@
-// The numbers of 01's questions, by which a call refuses. `SERVED` is the number of an answer that is no refusal.
+// The numbers of the questions of 01 and 02, by which a call refuses. `SERVED` is the number of an answer that is no refusal.
 pub const SERVED: usize = 0;
 
 pub const WIDTH: usize = 1;
@@ -26,3 +26,5 @@ pub const FIRST_LINE: usize = 11;
 pub const INPUT_LENGTH: usize = 12;
 
 pub const CODE: usize = 13;
+
+pub const UNUSED_BIT: usize = 14;

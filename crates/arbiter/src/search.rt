@@ -1,4 +1,4 @@
-// Searching bytes: the highest of them, and the first 1.
+// Searching bytes: the highest of them, the first that is not 0, and the first 1.
 use rules::Head;
 ghost use mathlib.Core.Path.{_≡_};
 ghost use Prim.Native.Nat.{_+_, _/_, _≤_, _<_};
@@ -22,9 +22,27 @@ pub fn highest(bytes: &[u8]) -> u8
     high
 }
 
-// The place of the first 1 from `from` on, or none. It looks at eight bytes at a time, and at the last few one by one.
+// The place of the first 1 from `from` on, or none.
 pub fn first_one(from: usize, bytes: &[u8]) -> Head
     ensures { λ r. ⌜ r ≡ Places.first (Places.ones from (now (bytes .entry))) ⌝ }
+{
+    let mut i = from;
+    loop {
+        let found = first_nonzero(i, bytes);
+        let Head::At(place) = found else {
+            return Head::None;
+        };
+        if bytes[place] == 1 {
+            return Head::At(place);
+        }
+        i = place + 1;
+    }
+}
+
+// The place of the first byte from `from` on that is not 0, or none. It looks at eight bytes at a time, and at the last few one by
+// one.
+pub fn first_nonzero(from: usize, bytes: &[u8]) -> Head
+    ensures { λ r. ⌜ r ≡ Places.first (Places.nonzero from (now (bytes .entry))) ⌝ }
 {
     if bytes.len() < 8 {
         return first_of_few(from, bytes);
@@ -33,26 +51,21 @@ pub fn first_one(from: usize, bytes: &[u8]) -> Head
     let mut i = from;
     while i <= last {
         let word = eight(bytes, i);
-        if word == 0 {
-            i += 8;
-        } else {
-            let place = i + lowest_byte(word);
-            if bytes[place] == 1 {
-                return Head::At(place);
-            }
-            i = place + 1;
+        if word != 0 {
+            return Head::At(i + lowest_byte(word));
         }
+        i += 8;
     }
     first_of_few(i, bytes)
 }
 
 // The same, one byte at a time.
 fn first_of_few(from: usize, bytes: &[u8]) -> Head
-    ensures { λ r. ⌜ r ≡ Places.first (Places.ones from (now (bytes .entry))) ⌝ }
+    ensures { λ r. ⌜ r ≡ Places.first (Places.nonzero from (now (bytes .entry))) ⌝ }
 {
     let mut i = from;
     while i < bytes.len() {
-        if bytes[i] == 1 {
+        if bytes[i] != 0 {
             return Head::At(i);
         }
         i += 1;

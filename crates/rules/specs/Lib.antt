@@ -4,4 +4,5 @@ pub mod Walk
 pub mod Tree
 pub mod Thermometer
 pub mod KoggeStone
+pub mod Packing
 pub mod Bus

@@ -9,7 +9,7 @@ use native.Mathlib.Omega.{arith}
 use lib.Dec.{eqb, ltb}
 use lib.ListN.{length, getD, drop, drop-of-length-le}
 use lib.Seq.{drop-cons}
-use borrow.Author.Tests.{eqb-true, eqb-false, ltb-true, ltb-false}
+use borrow.Author.Tests.{eqb-true, eqb-false, ltb-true, ltb-false, lt-ltb, le-ltb, ne-eqb}
 use Rattle.rules.specs.declared.Head.the-variants.{None, At}
 use Rattle.rules.specs.Lists.{range, filter}
 use Rattle.rules.specs.Lists.Laws as Lists
@@ -24,6 +24,13 @@ first-none (p ∷ ps) e = let z : _≡_ {A = ℕ} 0 1 = cc in absurd (omega arit
 pub first-some : (ps : List ℕ) (w : ℕ) → first ps ≡ At w → (rest : List ℕ) × (ps ≡ w ∷ rest)
 first-some [] w e = let z : _≡_ {A = ℕ} 0 1 = cc in absurd (omega arith)
 first-some (p ∷ ps) w e = let same : p ≡ w = cc in (ps, rw same)
+
+-- a byte that is not 0 passes the test of one, and 0 does not
+pub is-nonzero : {b : ℕ} → (b ≡ 0 → ⊥) → ltb 0 b ≡ true
+is-nonzero {b} e = lt-ltb 0 b (omega arith)
+
+pub is-zero : {b : ℕ} → b ≡ 0 → ltb 0 b ≡ false
+is-zero {b} e = le-ltb 0 b (omega arith)
 
 -- no byte from one place up to another passes
 pub record Free (test : ℕ → Bool) (from to : ℕ) (bytes : List ℕ) : Type 0 where
@@ -116,6 +123,11 @@ found test from i bytes e =
 pub free-of : {test : ℕ → Bool} {from : ℕ} {bytes : List ℕ} → places test from bytes ≡ [] → Free test from (length bytes) bytes
 free-of {test} {from} {bytes} e =
     record { at = λ k l u. Lists.none-of (λ i. test (getD bytes i 0)) from (length bytes - from) k e l (omega arith) }
+
+-- where every byte is 0, none is 1
+pub no-one : {from to : ℕ} {bytes : List ℕ} → Free (ltb 0) from to bytes → (k : ℕ) → from ≤ k → k < to → eqb (getD bytes k 0) 1 ≡ false
+no-one {from} {to} {bytes} free k l u =
+    ne-eqb (getD bytes k 0) 1 (λ e. omega (arith, ltb-false 0 (getD bytes k 0) (free .at k l u)))
 
 -- the highest byte of those from a place on
 pub highest-none : (bytes : List ℕ) (i : ℕ) → length bytes ≤ i → highest (drop i bytes) ≡ 0

@@ -54,9 +54,10 @@ unfolding digits more
 eight-each [] = refl
 eight-each (b ∷ bs) = omega (arith, eight-each bs)
 
--- place p of some bytes: those before it are 0
+-- place p of some bytes: it is not 0, and those before it are
 record Lowest (bs : List ℕ) (p : ℕ) : Type 0 where
   within : p < length bs
+  some : getD bs p 0 ≡ 0 → ⊥
   zeros : (k : ℕ) → k < p → getD bs k 0 ≡ 0
 
 zeros-more : (b : ℕ) (bs : List ℕ) (p : ℕ) → b ≡ 0 → ((k : ℕ) → k < p → getD bs k 0 ≡ 0) → (k : ℕ) → k < suc p
@@ -83,11 +84,11 @@ lowest (b ∷ bs) l some =
     let shift : b + 256 * n ≡ 2 ^ 8 * n = omega arith in
     let on : (8 + t) / 8 ≡ suc (t / 8) = omega arith in
     let r = lowest bs (λ k u. l (suc k) (omega arith)) (λ z. some (omega arith)) in
-    rw (shift, low-zero 8 (digits bs) n, on) record { within = omega (arith, r .within); zeros = zeros-more b bs (t / 8) none (r .zeros) })
+    rw (shift, low-zero 8 (digits bs) n, on) record { within = omega (arith, r .within); some = r .some; zeros = zeros-more b bs (t / 8) none (r .zeros) })
     (λ e.
     let first : trailingZeros (more 8 (digits bs)) (b + 256 * n) / 8 ≡ 0 =
     omega (arith, low-some 8 (digits bs) b n (omega (arith, eqb-false b 0 e)) (l 0 (omega arith))) in
-    rw first record { within = omega arith; zeros = λ k u. absurd (omega arith) })
+    rw first record { within = omega arith; some = eqb-false b 0 e; zeros = λ k u. absurd (omega arith) })
 
 -- eight bytes of a buffer, from i on
 module _ (bytes : List ℕ) (i : ℕ) (room : i + 8 ≤ length bytes) where
@@ -106,13 +107,14 @@ module _ (bytes : List ℕ) (i : ℕ) (room : i + 8 ≤ length bytes) where
       let k : i + (w - i) ≡ w = omega arith in
       rw k at (sym (at (w - i) (omega arith)) ∙ all-zero eight e (w - i) (omega (arith, long)))
 
-  -- they are not, and p is the place of the lowest other byte: it is one of the eight, and those before it are 0
+  -- they are not, and p is the place of the lowest other byte: it is one of the eight and not 0, and those before it are 0
   pub loud : ((w : ℕ) → getD bytes w 0 < 256) → (number eight ≡ 0 → ⊥) → (p : ℕ) → p ≡ i + trailingZeros 64 (number eight) / 8
-      → (p < i + 8) × ((w : ℕ) → i ≤ w → w < p → getD bytes w 0 ≡ 0)
+      → (p < i + 8) × (getD bytes p 0 ≡ 0 → ⊥) × ((w : ℕ) → i ≤ w → w < p → getD bytes w 0 ≡ 0)
   loud small some p e =
       let all : digits eight ≡ 64 = omega (arith, eight-each eight, long) in
       let r = rw all at (lowest eight (λ k l. let l8 : k < 8 = omega (arith, long) in rw (at k l8) (small (i + k))) some) in (
         omega (arith, r .within, long),
+        (λ z. r .some (at _ (omega (arith, r .within, long)) ∙ rw (← e) z)),
         λ w l u.
             let k : i + (w - i) ≡ w = omega arith in
             rw k at (sym (at (w - i) (omega (arith, r .within, long))) ∙ r .zeros (w - i) (omega arith)),

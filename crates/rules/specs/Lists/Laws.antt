@@ -5,7 +5,7 @@ use mathlib.Core.Path.{_≡_, refl, sym, ap, _∙_}
 use mathlib.Core.Bool.{Bool, true, false, _&&_, _||_, true≢false, and-true, and-false}
 use native.Mathlib.Nat.{zero-add, add-zero, suc-add, add-suc}
 use native.Mathlib.Numerals.{add-one, one-add}
-use mathlib.Core.List.{List, [], _∷_, _++_, map}
+use mathlib.Core.List.{List, [], _∷_, _++_, map, append-nil}
 use native.Mathlib.Omega.{arith}
 use lib.Dec.{ltb, eqb, leb·suc-suc}
 use lib.ListN.{length, take, getD, set, replicate, length-map, length-set, length-replicate, getD-replicate}
@@ -298,6 +298,12 @@ getD-table f a (suc k) (suc i) l = rw (add-suc a i, ← suc-add a i) (getD-table
 pub length-table : (f : ℕ → ℕ) (a k : ℕ) → length (map f (range a k)) ≡ k
 length-table f a k = length-map (range a k) f ∙ length-range a k
 
+-- two tables are the same where their entries are
+pub table-same : (f g : ℕ → ℕ) (a k : ℕ) → ((i : ℕ) → a ≤ i → i < a + k → f i ≡ g i) → map f (range a k) ≡ map g (range a k)
+table-same f g a zero e = refl
+table-same f g a (suc k) e =
+    rw (e a (omega arith) (omega arith)) (ap {B = List ℕ} (λ l. g a ∷ l) (table-same f g (suc a) k (λ i l u. e i (omega arith) (omega arith))))
+
 -- no marks
 pub marks-none : (n : ℕ) → replicate n 0 ≡ marks n []
 marks-none n =
@@ -403,6 +409,24 @@ none-of p a k i e l u =
     let out : false ≡ (true && p i) =
     ap (member i) (sym e) ∙ member-filter p i (range a k) ∙ rw (member-range i a k l u) in
     sym out
+
+-- two tests that agree on a range leave the same of it
+pub filter-same : (p q : ℕ → Bool) (a k : ℕ) → ((i : ℕ) → a ≤ i → i < a + k → p i ≡ q i) → filter p (range a k) ≡ filter q (range a k)
+filter-same p q a zero e = refl
+filter-same p q a (suc k) e =
+    rw (e a (omega arith) (omega arith), filter-same p q (suc a) k (λ i l u. e i (omega arith) (omega arith)))
+
+-- and so do a longer range, of which nothing passes from there on, and a shorter one
+pub filter-upto : (p q : ℕ → Bool) (a to end : ℕ) → a ≤ to → to ≤ end → ((i : ℕ) → a ≤ i → i < to → p i ≡ q i)
+    → ((i : ℕ) → to ≤ i → i < end → p i ≡ false) → filter p (range a (end - a)) ≡ filter q (range a (to - a))
+filter-upto p q a to end l u same none =
+    let parts : end - a ≡ (to - a) + (end - to) = omega arith in
+    let here : a + (to - a) ≡ to = omega arith in
+    ap (λ (k : ℕ). filter p (range a k)) parts
+    ∙ ap (filter p) (range-append a (to - a) (end - to))
+    ∙ filter-append p (range a (to - a)) (range (a + (to - a)) (end - to))
+    ∙ rw (here, filter-none p to (end - to) (λ i b e. none i b (omega arith)))
+    (append-nil (filter p (range a (to - a))) ∙ filter-same p q a (to - a) (λ i b e. same i b (omega arith)))
 
 -- the first of a range that passes, with those that pass after it
 pub filter-first : (p : ℕ → Bool) (a k w : ℕ) → a ≤ w → w < a + k → ((i : ℕ) → a ≤ i → i < w → p i ≡ false) → p w ≡ true

@@ -28,6 +28,7 @@ use Rattle.arbiter.specs.Answers.{Outcome}
 use Rattle.arbiter.specs.Answers.Laws.{writes-passed, writes-is}
 use Rattle.arbiter.specs.Decisions.{requested}
 use Rattle.arbiter.specs.Decisions.Laws.{none-granted}
+use Rattle.arbiter.specs.Decisions.OnePick as OnePick
 use Rattle.token_bus.specs.Calls.{state, decision, answer, granting, questions, cycle}
 
 -- what is known once 1, 3 and 4 have passed
@@ -95,62 +96,6 @@ serves s requests former byte z asked room wires bit =
     ap (λ (o : Outcome). o .answer .number)
     (writes-is _ s (answer s requests byte) (granting s requests) former (then-passed _ (Questions.acknowledge byte) lent (rw (le-leb byte 1 bit))))
 
--- a list of one at most is its first
-first-only : (ps : List ℕ) (w : ℕ) → length ps ≤ 1 → first ps ≡ At w → ps ≡ w ∷ []
-first-only ps w l e =
-    let r = first-some ps w e in r .1 ∙ ap {B = List ℕ} (λ rest. w ∷ rest) (Lists.empty (r .0) (omega (arith, ap length (r .1))))
-
--- what is first stays first where more follows
-first-append : (ps qs : List ℕ) (w : ℕ) → first ps ≡ At w → first (ps ++ qs) ≡ At w
-first-append ps qs w e = ap (λ (l : List ℕ). first (l ++ qs)) (first-some ps w e .1)
-
-module _ (n t : ℕ) (asks : ℕ → Bool) (station : t < n) where
-  -- those that ask, in the order from the token
-  abbrev asked-in-order : List ℕ
-  asked-in-order = filter asks (order n (At t))
-
-  -- they are stations
-  first-below : (w : ℕ) → first asked-in-order ≡ At w → w < n
-  first-below w e =
-      Lists.split (ltb w n)
-      (λ l. ltb-true w n l)
-      (λ g.
-      let head = BusLaws.token-head n t station in
-      let r = first-some asked-in-order w e in
-      absurd (omega (
-        arith,
-        ap (count (eqb w)) (r .1),
-        ap bit (eq-eqb w w refl),
-        Lists.count-filter-le (eqb w) asks (order n (At t)),
-        RoundRobin.order-outside n (At t) w (omega arith) (ltb-false w n g),
-      )))
-
-  -- the bus grants the first of them
-  first-granted : first (Bus.granted n t asks) ≡ first asked-in-order
-  unfolding Bus.granted
-  first-granted = by asked-in-order refl
-    where
-      by : (ps : List ℕ) → asked-in-order ≡ ps → first (Bus.granted n t asks) ≡ first ps
-      by [] e = ap first (RoundRobin.granted-none n 1 (At t) asks (sym (Lists.length-filter asks (order n (At t))) ∙ ap length e))
-      by (p ∷ ps) e =
-          let head = BusLaws.token-head n t station in
-          let r = Lists.first-left asks (order n (At t)) p ps e in
-          ap first (RoundRobin.granted-one n (At t) asks p (omega arith) (first-below p (ap first e)) (r .0) (r .1))
-
-  -- those from the token on come first
-  in-two-runs : asked-in-order ≡ filter asks (range t (n - t)) ++ filter asks (range 0 t)
-  in-two-runs =
-      ap (filter asks) (rw (RoundRobin.start-at t) at (RoundRobin.order-runs n (At t)))
-      ∙ Lists.filter-append asks (range t (n - t)) (range 0 t)
-
-  -- where none of those asks, the first that asks at all comes first
-  below-token : filter asks (range t (n - t)) ≡ [] → first (filter asks (range 0 n)) ≡ first asked-in-order
-  below-token e =
-      let low : List ℕ = filter asks (range 0 t) in
-      let all : filter asks (range 0 n) ≡ low ++ [] = ap (filter asks) (Lists.range-split n t (omega arith)) ∙ Lists.filter-append asks (range 0 t) (range t (n - t)) ∙ ap (_++_ low) e in
-      let ordered : asked-in-order ≡ low = in-two-runs ∙ ap (λ (ps : List ℕ). ps ++ low) e in
-      ap first (all ∙ append-nil low ∙ sym ordered)
-
 -- a cycle that no question refuses, from the token t
 module _ (n t : ℕ) (requests : List ℕ) (station : t < n) where
   abbrev asks : ℕ → Bool
@@ -159,6 +104,9 @@ module _ (n t : ℕ) (requests : List ℕ) (station : t < n) where
   abbrev granted : List ℕ
   granted = Bus.granted n t asks
 
+  head : start (At t) < n
+  head = BusLaws.token-head n t station
+
   -- where every byte is 0 the bus grants no one
   pub found-none : highest requests ≡ 0 → None ≡ first granted
   unfolding Bus.granted
@@ -166,16 +114,13 @@ module _ (n t : ℕ) (requests : List ℕ) (station : t < n) where
 
   -- a search from the token on finds whom the bus grants, or no one
   pub found-high : (w : ℕ) → length requests ≡ n → first (ones t requests) ≡ At w → At w ≡ first granted
-  found-high w long e =
-      sym (first-granted n t asks station
-      ∙ ap first (in-two-runs n t asks station)
-      ∙ first-append (filter asks (range t (n - t))) (filter asks (range 0 t)) w (rw long at e))
+  unfolding Bus.granted
+  found-high w long e = OnePick.found-high n (At t) requests head long w (rw (RoundRobin.start-at t) e)
 
   -- and then one from 0 on finds whom it grants
   pub found-low : length requests ≡ n → first (ones t requests) ≡ None → first (ones 0 requests) ≡ first granted
-  found-low long e =
-      let all : length requests - 0 ≡ n = omega arith in
-      rw all (below-token n t asks station (first-none _ (rw long at e))) ∙ sym (first-granted n t asks station)
+  unfolding Bus.granted
+  found-low long e = OnePick.found-low n (At t) requests head long (rw (RoundRobin.start-at t) e)
 
   -- no grant: the token stays
   pub idle-decides : (ack : Bool) → first granted ≡ None → record { count = 0; next = At t } ≡ decision n t ack asks
@@ -187,10 +132,12 @@ module _ (n t : ℕ) (requests : List ℕ) (station : t < n) where
   -- a grant: the token moves one on if it is acknowledged
   module _ (w : ℕ) (e : first granted ≡ At w) where
     only : granted ≡ w ∷ []
-    only = first-only granted w (BusLaws.granted-few n t asks) e
+    unfolding Bus.granted
+    only = OnePick.only-granted n (At t) asks head w e
 
     pub granted-below : w < n
-    granted-below = first-below n t asks station w (sym (first-granted n t asks station) ∙ e)
+    unfolding Bus.granted
+    granted-below = OnePick.granted-below n (At t) asks head w e
 
     pub granted-decides : (ack : Bool) → record { count = 1; next = At (cond ack ((t + 1) % n) t) } ≡ decision n t ack asks
     granted-decides ack = rw only (ap (λ (k : ℕ). record { count = 1; next = At k }) (to ack))

@@ -1,18 +1,17 @@
--- `first_of_few` meets its contract: no byte that it passed is 1.
+-- `first_of_few` meets its contract: every byte that it passed is 0.
 -- Assumes nothing.
 use Prim.Native.Nat.{_≤_, _-_}
-use lib.Dec.{eqb}
+use lib.Dec.{ltb}
 use mathlib.Core.Path.{sym, ap}
 use native.Mathlib.Omega.{arith}
 use lib.ListN.{length}
-use borrow.Author.Tests.{eq-eqb, ne-eqb}
 use Rattle.arbiter.specs.Places.{first}
-use Rattle.arbiter.specs.Places.Laws.{Free, free-none, free-more, places-none, places-first}
+use Rattle.arbiter.specs.Places.Laws.{Free, free-none, free-more, places-none, places-first, is-nonzero, is-zero}
 use Rattle.arbiter.proofs.search.first_of_few.Statement.{statement}
 use Rattle.arbiter.proofs.search.first_of_few.Tie as tie
 
 abbrev Inv-loop : tie.InvT-loop
-Inv-loop from bytes i₀ i = (from ≤ i) × Free (λ b. eqb b 1) from i bytes
+Inv-loop from bytes i₀ i = (from ≤ i) × Free (ltb 0) from i bytes
 
 abbrev μ-loop : tie.MeasureT-loop
 μ-loop from bytes i₀ i = length bytes - i
@@ -24,7 +23,7 @@ shared-slice-read-if1 : tie.Need-shared-slice-read-if1 Inv-loop μ-loop
 shared-slice-read-if1 c = omega arith
 
 returns : tie.Need-returns Inv-loop μ-loop
-returns c = sym (ap first (places-first (c .before .before .before .loop .inv .1) (c .before .before .before .loop .inv .0) (omega arith) (eq-eqb _ _ (c .if1 .taken))))
+returns c = sym (ap first (places-first (c .before .before .before .loop .inv .1) (c .before .before .before .loop .inv .0) (omega arith) (is-nonzero (c .if1 .taken))))
 
 add-i : tie.Need-add-i Inv-loop μ-loop
 add-i c = omega arith
@@ -33,7 +32,7 @@ loop-less : tie.Need-loop-less Inv-loop μ-loop
 loop-less c = omega arith
 
 loop-again : tie.Need-loop-again Inv-loop μ-loop
-loop-again c = (omega arith, free-more (c .before .before .before .loop .inv .1) (ne-eqb _ _ (c .if1 .left)))
+loop-again c = (omega arith, free-more (c .before .before .before .loop .inv .1) (is-zero (c .if1 .left)))
 
 returns-2 : tie.Need-returns-2 Inv-loop μ-loop
 returns-2 c = sym (ap first (places-none (c .before .loop .inv .1) (c .loop-test .left)))
