@@ -12,6 +12,7 @@ use arbiter::decide;
 use arbiter::first_station;
 use arbiter::idle;
 use arbiter::refusal;
+use arbiter::search::highest;
 use rules::Head;
 ghost use mathlib.Core.List.{_++_};
 ghost use mathlib.Core.Path.{_≡_};
@@ -90,17 +91,24 @@ fn grant(width: usize, head: Head, requests: &[u8], grants: &mut [u8]) -> Decisi
     decide(width, head, 1, station)
 }
 
-// The first station that asks from `first` on and then round, or none: from its line in its byte on, then the bytes after it; and
-// where none of these asks, the bytes from 0 on, up to its byte again.
+// The first station that asks from `first` on and then round, or none. In the byte of `first` it looks from that line on. Where none
+// of these asks, nor any station at all, there is none; else it looks at the next byte that is not 0, the byte of `first` last.
 fn first_request(first: usize, requests: &[u8]) -> Head
     requires { ⌜ first < 8 * length (now requests) ⌝ }
     requires { ⌜ length (now requests) ≤ Questions.maxWidth ⌝ }
     ensures { λ r. ⌜ r ≡ Places.first (Places.setLines first (now (requests .entry)) ++ Places.setLines 0 (now (requests .entry))) ⌝ }
 {
-    let above = lines::first_set(first, requests);
-    let end = first / 8 + 1;
-    match above {
-        Head::None => lines::first_set(0, &requests[..end]),
-        Head::At(_) => above,
+    let home = first / 8;
+    let line = lines::entry(requests[home], first % 8);
+    if line < 8 {
+        return Head::At(8 * home + line);
     }
+    if highest(requests) == 0 {
+        return Head::None;
+    }
+    let found = lines::next_byte(home, requests);
+    let Head::At(byte) = found else {
+        return Head::None;
+    };
+    Head::At(8 * byte + lines::entry(requests[byte], 0))
 }

@@ -1,42 +1,39 @@
-// Searching packed wires for the first set line, a byte at a time, by the table.
+// Searching packed wires by the table.
 use crate::table;
 use arbiter::search::first_nonzero;
 use rules::Head;
+ghost use mathlib.Core.List.{_++_};
 ghost use mathlib.Core.Path.{_≡_};
-ghost use Prim.Native.Nat.{_+_, _*_, _/_, _%_, _^_, _≤_, _<_};
-ghost use lib.ListN.{length};
+ghost use Prim.Native.Nat.{_+_, _*_, _/_, _%_, _^_, _<_};
+ghost use lib.ListN.{length, take};
 ghost use Rattle.rules.specs.Packing as Packing;
 ghost use Rattle.arbiter.specs.Places as Places;
-ghost use Rattle.arbiter.specs.Questions as Questions;
 
-// The first set line from the line `from` on, of all the lines of these bytes, or none. In the byte of `from` it looks from that
-// line on. Of those after it, it looks at the first that is not 0, whole: the entries of 0 are 8.
-pub(crate) fn first_set(from: usize, packed: &[u8]) -> Head
-    requires { ⌜ length (now packed) ≤ Questions.maxWidth ⌝ }
-    ensures { λ r. ⌜ r ≡ Places.first (Places.setLines from (now (packed .entry))) ⌝ }
+// The first byte that is not 0 of those after the byte `home` and then, up to it again, of those from 0 on; or none.
+pub(crate) fn next_byte(home: usize, packed: &[u8]) -> Head
+    requires { ⌜ home < length (now packed) ⌝ }
+    ensures { λ r. ⌜ r ≡ Places.first (Places.nonzero (home + 1) (now (packed .entry)) ++ Places.nonzero 0 (take (home + 1) (now (packed .entry)))) ⌝ }
 {
-    let home = from / 8;
-    if packed.len() <= home {
-        return Head::None;
+    let end = home + 1;
+    let above = first_nonzero(end, packed);
+    match above {
+        Head::None => first_nonzero(0, &packed[..end]),
+        Head::At(_) => above,
     }
-    let line = entry(packed[home], from % 8);
-    if line < 8 {
-        return Head::At(8 * home + line);
-    }
-    let found = first_nonzero(home + 1, packed);
-    let Head::At(byte) = found else {
-        return Head::None;
-    };
-    Head::At(8 * byte + entry(packed[byte], 0))
 }
 
-// An entry of the table: the first set line of a byte at or above the start, or 8.
-fn entry(byte: u8, start: usize) -> usize
+// The first set line of a byte at or above the start, or 8: an entry of the table. Where no line from the start on is set, or the
+// start's own line, the entry is known without the table.
+pub(crate) fn entry(byte: u8, start: usize) -> usize
     requires { ⌜ start < 8 ⌝ }
     ensures { λ r. ⌜ r ≡ Packing.firstLine byte start ⌝ }
 {
-    if byte == 0 {
+    let rest = byte >> start;
+    if rest == 0 {
         return 8;
+    }
+    if rest % 2 == 1 {
+        return start;
     }
     let i = wide(byte) * 8 + start;
     wide(listed(i / 256, i % 256))

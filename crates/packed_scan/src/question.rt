@@ -1,11 +1,10 @@
 // The questions that the packed scan asks. Those that are its alone stand here, the others in `arbiter`.
-use crate::lines::first_set;
+use crate::lines::entry;
 use arbiter::question;
 use arbiter::question::Verdict;
 use arbiter::refusal;
 use rules::Head;
 ghost use mathlib.Core.Path.{_≡_};
-ghost use Prim.Native.Nat.{_≤_};
 ghost use lib.ListN.{length};
 ghost use Rattle.rules.specs.Packing.{packedLength};
 ghost use Rattle.arbiter.specs.Questions as Questions;
@@ -31,16 +30,20 @@ pub(crate) fn state(width: usize, picks: usize, head: Head) -> Verdict
     by_width.then(by_picks).then(by_head)
 }
 
-// Question 14: is no bit set that is no station's? The place of a refusal is that of its byte.
+// Question 14: is no bit set that is no station's? Only the last byte can have one; the place of a refusal is that of the byte.
 fn unused_bits(width: usize, requests: &[u8]) -> Verdict
-    requires { ⌜ length (now requests) ≤ Questions.maxWidth ⌝ }
+    requires { ⌜ length (now requests) ≡ packedLength width ⌝ }
     ensures { λ r. ⌜ r ≡ Questions.unusedBits width (now (requests .entry)) ⌝ }
 {
-    let unused = first_set(width, requests);
-    match unused {
-        Head::None => question::refuse_unless(true, refusal::UNUSED_BIT, 0),
-        Head::At(line) => question::refuse_unless(false, refusal::UNUSED_BIT, line / 8),
+    let last = width / 8;
+    if last == requests.len() {
+        return question::refuse_unless(true, refusal::UNUSED_BIT, 0);
     }
+    let line = entry(requests[last], width % 8);
+    if line < 8 {
+        return question::refuse_unless(false, refusal::UNUSED_BIT, last);
+    }
+    question::refuse_unless(true, refusal::UNUSED_BIT, 0)
 }
 
 // Questions 1, 3, 4, 5, 6 and 14 of a cycle whose grant buffer has `length` bytes.

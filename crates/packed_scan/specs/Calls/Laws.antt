@@ -15,7 +15,7 @@ use Rattle.arbiter.specs.declared.question.Verdict.{Verdict}
 use Rattle.arbiter.specs.Places.{first, setLines}
 use Rattle.arbiter.specs.Places.Laws.{first-none, first-some}
 use Rattle.arbiter.specs.Questions as Questions
-use Rattle.arbiter.specs.Questions.{refuseUnless, refuseAtFirst, _then_, maxWidth}
+use Rattle.arbiter.specs.Questions.{refuseUnless, refuseAtFirst, _then_}
 use Rattle.arbiter.specs.Questions.Laws.{then-served, width-served, one-pick-served, head-served, length-served, first-served, Allowed}
 use Rattle.packed_scan.specs.Calls.{state, questions}
 use Rattle.packed_scan.specs.Lines.{Packed}
@@ -48,7 +48,6 @@ pub record Sized (n m : ℕ) (h : Head) (asked size : ℕ) : Type 0 where
   pub state : OnePick n m h
   pub long : asked ≡ packedLength n
   pub room : size ≡ packedLength n
-  pub short : asked ≤ maxWidth
 
 pub sized : {r : Verdict} (n m : ℕ) (h : Head) (asked size : ℕ)
     → r ≡ (state n m h then Questions.readLength (packedLength n) asked then Questions.writeLength (packedLength n) size) → r .number ≡ 0
@@ -63,7 +62,6 @@ sized n m h asked size e z =
       state = s;
       long = is;
       room = length-served 5 (packedLength n) size (b .1);
-      short = omega (arith, s .allows .most);
     }
 
 -- 14 by the first line that is set and no station's, if there is one

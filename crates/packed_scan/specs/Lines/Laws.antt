@@ -1,8 +1,9 @@
 -- Laws of the set lines of packed bytes: how a search by the table finds the first, and that it is whom the rule grants.
 -- Assumes nothing.
 use Prim.Native.Nat.{ℕ, _+_, _-_, _*_, _/_, _%_, _^_, _≤_, _<_}
-use mathlib.Core.Path.{_≡_, refl, sym, ap, _∙_}
-use mathlib.Core.Bool.{Bool, true, false}
+use mathlib.Core.Path.{_≡_, refl, sym, ap, ap₂, _∙_}
+use mathlib.Core.Bool.{Bool, true}
+use mathlib.Core.Logic.{_⊎_, inl, inr, ⊎-elim}
 use mathlib.Core.List.{List, [], _∷_, _++_}
 use native.Mathlib.Omega.{arith}
 use lib.Dec.{eqb, ltb}
@@ -17,8 +18,8 @@ use Rattle.rules.specs.Packing.{line, unpack, packedLength, pack, firstLine}
 use Rattle.rules.specs.Packing.Laws as Packing
 use Rattle.rules.specs.RoundRobin.{start, granted, grants}
 use Rattle.rules.specs.RoundRobin.Laws as RoundRobin
-use Rattle.arbiter.specs.Places.{ones, setLines, first}
-use Rattle.arbiter.specs.Places.Laws.{first-none, Free, free-none, free-on, free-of, places-none, places-first, Found}
+use Rattle.arbiter.specs.Places.{ones, nonzero, setLines, first, highest}
+use Rattle.arbiter.specs.Places.Laws.{first-none, Free, free-none, free-on, free-of, places-none, places-first, Found, found, is-zero, highest-most}
 use Rattle.arbiter.specs.Decisions.{requested, decision, deciding, counted}
 use Rattle.arbiter.specs.Decisions.Laws.{counted-one, decided-granted}
 use Rattle.arbiter.specs.Decisions.OnePick as OnePick
@@ -116,10 +117,87 @@ module _ (packed : List ℕ) where
         sym (ap first (places-first free (omega (arith, hit .low)) (omega (arith, lines-length, hit .high)) set))
 
 -- the entry of a byte that is not 0
-pub found-line : (packed : List ℕ) (from k line : ℕ) → Found (ltb 0) from k packed → getD packed k 0 < 256 → line ≡ firstLine (getD packed k 0) 0
-    → line < 8
-found-line packed from k line hit byte e =
-    omega (arith, e, Packing.some-line (getD packed k 0) (ltb-true 0 _ (hit .passes)) byte)
+pub some-entry : (byte line : ℕ) → 0 < byte → byte < 256 → line ≡ firstLine byte 0 → line < 8
+some-entry byte line some small e = omega (arith, e, Packing.some-line byte some small)
+
+-- from the first line on: in the first byte that is not 0
+set-first : (packed : List ℕ) (k line : ℕ) → Found (ltb 0) 0 k packed → line ≡ firstLine (getD packed k 0) 0 → line < 8
+    → At (8 * k + line) ≡ first (setLines 0 packed)
+set-first packed k line hit e below =
+    let zeros = zero-free packed 0 k (omega (arith, hit .high)) (hit .free) in
+    let start : 8 * k + 0 ≡ 8 * k = omega arith in
+    let here = rw (← e, start) at (entry-free packed k 0 (hit .high) (omega arith)) in
+    let set = rw (← e) at (entry-set packed k 0 (hit .high) (omega arith) (omega (arith, e))) in
+    sym (ap first (places-first (free-on zeros (here .at)) (omega arith) (omega (arith, lines-length packed, hit .high)) set))
+
+-- where every byte is 0 no line is set
+set-quiet : (packed : List ℕ) (from : ℕ) → Free (ltb 0) 0 (length packed) packed → setLines from packed ≡ []
+set-quiet packed from zeros =
+    let free : Free isSet from (length (lines packed)) (lines packed) =
+    record {
+      at = λ i a b. zero-free packed 0 (length packed) (omega arith) zeros .at i (omega arith) (omega (arith, lines-length packed));
+    } in
+    places-none free (omega arith)
+
+pub round-quiet : (packed : List ℕ) (from : ℕ) → Free (ltb 0) 0 (length packed) packed
+    → None ≡ first (setLines from packed ++ setLines 0 packed)
+round-quiet packed from zeros = sym (ap₂ (λ (high low : List ℕ). first (high ++ low)) (set-quiet packed from zeros) (set-quiet packed 0 zeros))
+
+-- the highest byte tells that
+pub highest-zero : (packed : List ℕ) → highest packed ≡ 0 → Free (ltb 0) 0 (length packed) packed
+highest-zero packed e = record { at = λ k _ _. is-zero {b = getD packed k 0} (omega (arith, highest-most packed k)) }
+
+-- what a search for the next byte finds: one after `home`, or else one up to it
+pub record Next (packed : List ℕ) (home k : ℕ) : Type 0 where
+  pub within : k < length packed
+  pub some : 0 < getD packed k 0
+  pub found : Found (ltb 0) (home + 1) k packed
+      ⊎ (Free (ltb 0) (home + 1) (length packed) packed × Found (ltb 0) 0 k (take (home + 1) packed))
+
+module _ (packed : List ℕ) (home : ℕ) (within : home < length packed) where
+  -- the bytes after it, and those up to it
+  abbrev above : List ℕ
+  above = nonzero (home + 1) packed
+
+  abbrev upto-home : List ℕ
+  upto-home = take (home + 1) packed
+
+  upto-length : length upto-home ≡ home + 1
+  upto-length = length-take-le (home + 1) packed (omega arith)
+
+  next-by : (ps : List ℕ) (k : ℕ) → above ≡ ps → first (ps ++ nonzero 0 upto-home) ≡ At k → Next packed home k
+  next-by [] k none e =
+      let hit = found (ltb 0) 0 k upto-home e in
+      let same : getD upto-home k 0 ≡ getD packed k 0 = getD-take (home + 1) packed k 0 (omega (arith, upto-length, hit .high)) in
+      record {
+        within = omega (arith, upto-length, hit .high);
+        some = omega (arith, same, ltb-true 0 (getD upto-home k 0) (hit .passes));
+        found = inr (free-of none, hit);
+      }
+  next-by (p ∷ ps) k some e =
+      let hit = found (ltb 0) (home + 1) k packed (ap first some ∙ e) in
+      record { within = hit .high; some = ltb-true 0 (getD packed k 0) (hit .passes); found = inl hit }
+
+  pub next-some : (k : ℕ) → first (above ++ nonzero 0 upto-home) ≡ At k → Next packed home k
+  next-some k e = next-by above k refl e
+
+  -- it finds none: every byte is 0
+  none-by : (ps : List ℕ) → above ≡ ps → first (ps ++ nonzero 0 upto-home) ≡ None → Free (ltb 0) 0 (length packed) packed
+  none-by [] none e =
+      let low : Free (ltb 0) 0 (length upto-home) upto-home = free-of (first-none _ e) in
+      let high : Free (ltb 0) (home + 1) (length packed) packed = free-of none in
+      record {
+        at = λ k _ u.
+            Lists.split (ltb k (home + 1))
+            (λ t.
+            let l = ltb-true k (home + 1) t in
+            ap (ltb 0) (sym (getD-take (home + 1) packed k 0 l)) ∙ low .at k (omega arith) (omega (arith, upto-length)))
+            (λ f. high .at k (ltb-false k (home + 1) f) u);
+      }
+  none-by (p ∷ ps) some e = let z : _≡_ {A = ℕ} 0 1 = cc in absurd (omega arith)
+
+  pub next-none : first (above ++ nonzero 0 upto-home) ≡ None → Free (ltb 0) 0 (length packed) packed
+  next-none e = none-by above refl e
 
 -- once round: a search from a line on that finds one
 pub round-high : (packed : List ℕ) (from w : ℕ) → first (setLines from packed) ≡ At w
@@ -159,6 +237,25 @@ module _ (packed : List ℕ) (from : ℕ) (within : from < 8 * length packed) (n
       (λ i _ u. low-same i u)
       (λ i l u. above-free .at i (omega arith) u)) in
       sym (ap (λ (high : List ℕ). first (high ++ setLines 0 packed)) (first-none (setLines from packed) none) ∙ ap first short)
+
+-- the line that the table has for the next byte is the first once round
+pub round-next : (packed : List ℕ) (from entry k line : ℕ) (within : from / 8 < length packed)
+    → entry ≡ firstLine (getD packed (from / 8) 0) (from % 8) → 8 ≤ entry → Next packed (from / 8) k
+    → line ≡ firstLine (getD packed k 0) 0 → line < 8
+    → At (8 * k + line) ≡ first (setLines from packed ++ setLines 0 packed)
+round-next packed from entry k line within is full next e below =
+    ⊎-elim
+    (λ hit.
+    let high = set-after packed from entry within is full k line hit e below in
+    round-high packed from (8 * k + line) (sym high))
+    (λ both.
+    let hit = both .1 in
+    let part = take (from / 8 + 1) packed in
+    let long : length part ≡ from / 8 + 1 = length-take-le (from / 8 + 1) packed (omega arith) in
+    let same : getD part k 0 ≡ getD packed k 0 = getD-take (from / 8 + 1) packed k 0 (omega (arith, long, hit .high)) in
+    set-first part k line hit (e ∙ ap (λ (b : ℕ). firstLine b 0) (sym same)) below
+    ∙ round-low packed from (omega arith) (sym (set-none packed from entry within is full (both .0))))
+    (next .found)
 
 -- the packed wires of n stations
 module _ (n : ℕ) (packed : List ℕ) (p : Packed n packed) where

@@ -6,7 +6,7 @@ use mathlib.Core.Bool.{Bool, true, false}
 use mathlib.Core.List.{List, [], _∷_, _++_, map, map-append}
 use native.Mathlib.Omega.{arith}
 use native.Mathlib.Nat.{zero-add, zero-div, pow-succ', div-div-eq-div-mul}
-use lib.Pow.{pow-lt}
+use lib.Pow.{pow-lt, shr-shr}
 use lib.Dec.{ltb, eqb}
 use lib.ListN.{length, getD, set, replicate, length-set, length-replicate, getD-replicate, List·getD-eq-default}
 use lib.Seq.{ext-getD, getD-set-same, getD-set-other}
@@ -249,13 +249,24 @@ some-line byte some l =
     Lists.table-same (line byte) (λ _. 0) 0 8 (λ j a u. e .quiet j a (omega (arith, ltb-false (firstLine byte 0) 8 f))) in
     absurd (omega (arith, byte-lines byte l, ap binary none)))
 
--- a byte that is 0 has none
-pub zero-line : (start : ℕ) → start ≤ 8 → firstLine 0 start ≡ 8
-zero-line start l =
-    let e = entry 0 start l in
-    Lists.split (ltb (firstLine 0 start) 8)
-    (λ t. absurd (omega (arith, e .set (ltb-true _ 8 t), line-zero (firstLine 0 start))))
-    (λ f. omega (arith, e .most, ltb-false (firstLine 0 start) 8 f))
+-- where no line is set from the start on, the entry is 8
+pub entry-none : (byte start : ℕ) → start ≤ 8 → byte / 2 ^ start ≡ 0 → firstLine byte start ≡ 8
+entry-none byte start l z =
+    let e = entry byte start l in
+    let f = firstLine byte start in
+    let on : start + (f - start) ≡ f = omega (arith, e .low) in
+    let high : byte / 2 ^ f ≡ 0 = rw (on, z, zero-div) at (sym (shr-shr byte start (f - start))) in
+    Lists.split (ltb f 8)
+    (λ t. let one : byte / 2 ^ f % 2 ≡ 1 = e .set (ltb-true f 8 t) in absurd (omega arith))
+    (λ n. omega (arith, e .most, ltb-false f 8 n))
+
+-- where the line at the start is set, it is that
+pub entry-own : (byte start : ℕ) → start < 8 → line byte start ≡ 1 → firstLine byte start ≡ start
+entry-own byte start l one =
+    let e = entry byte start (omega arith) in
+    Lists.split (ltb start (firstLine byte start))
+    (λ t. absurd (omega (arith, e .quiet start (omega arith) (ltb-true start _ t))))
+    (λ f. omega (arith, e .low, ltb-false start (firstLine byte start) f))
 
 -- the table in parts, one after the other
 pub entries-append : (from j k : ℕ) → entries from (j + k) ≡ entries from j ++ entries (from + j) k

@@ -55,7 +55,7 @@ unused-bits-requires : tie.Need-unused-bits-requires
 unused-bits-requires c κs =
     let q = c .before .before in
     let a = q .before .before .before .before .before .before .before .args in
-    sized (a .width) (a .picks) (a .head) (length (a .requests .now)) (a .length) (unread q) (c .if1 .left) .short
+    sized (a .width) (a .picks) (a .head) (length (a .requests .now)) (a .length) (unread q) (c .if1 .left) .long
 
 returns-2 : tie.Need-returns-2
 returns-2 c =
