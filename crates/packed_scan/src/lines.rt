@@ -4,7 +4,7 @@ use arbiter::search::first_nonzero;
 use rules::Head;
 ghost use mathlib.Core.List.{_++_};
 ghost use mathlib.Core.Path.{_≡_};
-ghost use Prim.Native.Nat.{_+_, _*_, _/_, _%_, _^_, _<_};
+ghost use Prim.Native.Nat.{_+_, _^_, _<_};
 ghost use lib.ListN.{length, take};
 ghost use Rattle.rules.specs.Packing as Packing;
 ghost use Rattle.arbiter.specs.Places as Places;
@@ -35,24 +35,24 @@ pub(crate) fn entry(byte: u8, start: usize) -> usize
     if rest % 2 == 1 {
         return start;
     }
-    let i = wide(byte) * 8 + start;
-    wide(listed(i / 256, i % 256))
+    wide(listed(byte, start))
 }
 
-// Entry `at` of a part of the table.
-fn listed(part: usize, at: usize) -> u8
-    requires { ⌜ (part < 8) × (at < 256) ⌝ }
-    ensures { λ r. ⌜ r ≡ Packing.firstLine ((256 * part + at) / 8) ((256 * part + at) % 8) ⌝ }
+// An entry of the table.
+fn listed(byte: u8, start: usize) -> u8
+    requires { ⌜ start < 8 ⌝ }
+    ensures { λ r. ⌜ r ≡ Packing.firstLine byte start ⌝ }
 {
-    match part {
-        0 => table::FROM_BYTE_0[at],
-        1 => table::FROM_BYTE_32[at],
-        2 => table::FROM_BYTE_64[at],
-        3 => table::FROM_BYTE_96[at],
-        4 => table::FROM_BYTE_128[at],
-        5 => table::FROM_BYTE_160[at],
-        6 => table::FROM_BYTE_192[at],
-        _ => table::FROM_BYTE_224[at],
+    let i = wide(byte);
+    match start {
+        0 => table::FROM_LINE_0[i],
+        1 => table::FROM_LINE_1[i],
+        2 => table::FROM_LINE_2[i],
+        3 => table::FROM_LINE_3[i],
+        4 => table::FROM_LINE_4[i],
+        5 => table::FROM_LINE_5[i],
+        6 => table::FROM_LINE_6[i],
+        _ => table::FROM_LINE_7[i],
     }
 }
 

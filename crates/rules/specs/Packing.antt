@@ -47,10 +47,6 @@ firstOr8 (j ∷ js) = j
 unfoldable pub firstLine : ℕ → ℕ → ℕ
 firstLine byte start = firstOr8 (filter (λ j. eqb (line byte j) 1) (range start (8 - start)))
 
--- entries of the table from an index on, where the index is byte × 8 + start: "one for each byte value and each start line 0 to 7"
-unfoldable pub entries : ℕ → ℕ → List ℕ
-entries from count = map (λ i. firstLine (i / 8) (i % 8)) (range from count)
-
--- the whole "table of 2,048 entries"
-abbrev pub table : List ℕ
-table = entries 0 2048
+-- the table's entries of a start line, "one for each byte value"; with "each start line 0 to 7" these are 2,048
+unfoldable pub entries : ℕ → List ℕ
+entries start = map (λ byte. firstLine byte start) (range 0 256)

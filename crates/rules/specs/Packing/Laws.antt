@@ -3,7 +3,7 @@
 use Prim.Native.Nat.{ℕ, zero, suc, _+_, _-_, _*_, _/_, _%_, _^_, _≤_, _<_}
 use mathlib.Core.Path.{_≡_, refl, sym, ap, _∙_}
 use mathlib.Core.Bool.{Bool, true, false}
-use mathlib.Core.List.{List, [], _∷_, _++_, map, map-append}
+use mathlib.Core.List.{List, [], _∷_, map}
 use native.Mathlib.Omega.{arith}
 use native.Mathlib.Nat.{zero-add, zero-div, pow-succ', div-div-eq-div-mul}
 use lib.Pow.{pow-lt, shr-shr}
@@ -268,27 +268,11 @@ entry-own byte start l one =
     (λ t. absurd (omega (arith, e .quiet start (omega arith) (ltb-true start _ t))))
     (λ f. omega (arith, e .low, ltb-false start (firstLine byte start) f))
 
--- the table in parts, one after the other
-pub entries-append : (from j k : ℕ) → entries from (j + k) ≡ entries from j ++ entries (from + j) k
+-- an entry of a list that is the table's of a start line
+pub entry-at : (line : ℕ) {byte start : ℕ} (list : List ℕ) → list ≡ entries line → byte < 256 → start ≡ line
+    → getD list byte 0 ≡ firstLine byte start
 unfolding entries
-entries-append from j k =
-    ap (map (λ i. firstLine (i / 8) (i % 8))) (Lists.range-append from j k)
-    ∙ map-append (λ i. firstLine (i / 8) (i % 8)) (range from j) (range (from + j) k)
-
--- an entry of a list that is the k-th part of 256 entries
-pub part-at : (k : ℕ) {part at : ℕ} (list : List ℕ) → list ≡ entries (256 * k) 256 → at < 256 → part ≡ k
-    → getD list at 0 ≡ firstLine ((256 * part + at) / 8) ((256 * part + at) % 8)
-unfolding entries
-part-at k {part} {at} list e l same =
-    ap (λ (t : List ℕ). getD t at 0) e
-    ∙ Lists.getD-table (λ i. firstLine (i / 8) (i % 8)) (256 * k) 256 at l
-    ∙ ap (λ (p : ℕ). firstLine ((256 * p + at) / 8) ((256 * p + at) % 8)) (sym same)
-
--- and of its byte and its start line
-pub part-entry : (byte start : ℕ) → start < 8 → let i = byte * 8 + start in
-    firstLine ((256 * (i / 256) + i % 256) / 8) ((256 * (i / 256) + i % 256) % 8) ≡ firstLine byte start
-part-entry byte start l =
-    let i = byte * 8 + start in
-    let own : (256 * (i / 256) + i % 256) / 8 ≡ byte = omega arith in
-    let line : (256 * (i / 256) + i % 256) % 8 ≡ start = omega arith in
-    rw (own, line)
+entry-at line {byte} {start} list e l same =
+    ap (λ (t : List ℕ). getD t byte 0) e
+    ∙ Lists.getD-table (λ byte. firstLine byte line) 0 256 byte l
+    ∙ rw zero-add (ap (firstLine byte) (sym same))
