@@ -1,16 +1,17 @@
 -- What holds of every call: each asks its questions, and answers by what they say.
 -- Assumes nothing.
-use Prim.Native.Nat.{ℕ, _*_}
+use Prim.Native.Nat.{ℕ, _*_, _<_}
 use mathlib.Core.Path.{_≡_, refl, sym, ap, _∙_}
 use mathlib.Core.Bool.{Bool, true, false, _&&_}
 use mathlib.Core.List.{List, [], _∷_}
 use native.Mathlib.Omega.{arith}
 use lib.Dec.{eqb, leb}
-use lib.ListN.{length}
+use lib.ListN.{length, replicate, length-replicate}
 use borrow.Author.Tests.{eqb-true, eqb-false}
 use Rattle.rules.specs.declared.Head.the-variants.{At}
 use Rattle.rules.specs.Lists.{count}
 use Rattle.rules.specs.Lists.Laws as Lists
+use Rattle.rules.specs.Packing.{pack, unpack}
 use Rattle.rules.specs.RoundRobin as Rule
 use Rattle.rules.specs.RoundRobin.Laws as RuleLaws
 use Rattle.rules.specs.Thermometer.{isCode}
@@ -24,6 +25,8 @@ use Rattle.arbiter.specs.Questions.{refuseUnless, _then_}
 use Rattle.arbiter.specs.Answers.{Outcome, moved, served, refused, ifPassed, writes}
 use Rattle.arbiter.specs.Answers.Laws.{passed-is, if-refused, writes-is, unwritten}
 use Rattle.arbiter.specs.Cycle as RoundRobin
+use Rattle.packed_scan.specs.Calls as PackedScan
+use Rattle.packed_scan.proofs.AsScan.{served-unpacked}
 use Rattle.snapshot.specs.Calls as Snapshot
 use Rattle.thermometer.specs.declared.adder.Sum.{Sum}
 use Rattle.thermometer.specs.Adder as Adder
@@ -33,8 +36,8 @@ use Rattle.token_bus.specs.Calls.Laws as BusLaws
 use Rattle.engines.specs.declared.Engine.{Engine}
 use Rattle.engines.specs.declared.Engine.the-variants.{Scan, Tree, Thermometer, KoggeStone}
 use Rattle.engines.specs.Calls.Laws.{Served, engine-served}
-use Rattle.calls.specs.Answers.{Call, Made, engineCycle, busCycle, engineOpening, busOpening, cycle, imageRead, imageWrite, snapshotRead, snapshotWrite, ran, unwriting, writing, made, HeadAfter, GrantsCounted, RefusedAsGiven, PlaceZero, AdderAnswers}
-use Rattle.calls.proofs.Places.{Sparse, unless, both, size, bits, state, tree-state, bus-state, lent, write, image, snapshot}
+use Rattle.calls.specs.Answers.{Call, Made, engineCycle, busCycle, packedCycle, engineOpening, busOpening, packedOpening, cycle, imageRead, imageWrite, snapshotRead, snapshotWrite, ran, unwriting, writing, made, HeadAfter, GrantsCounted, RefusedAsGiven, PlaceZero, AdderAnswers}
+use Rattle.calls.proofs.Places.{Sparse, unless, both, size, bits, state, tree-state, bus-state, packed-state, lent, packed, write, image, snapshot}
 
 -- how many bytes are 1
 abbrev ones : List ℕ → ℕ
@@ -190,6 +193,34 @@ asked-bus s requests grants byte =
           let u = unwritten-one v s a target grants f in (u .0, ap (λ (b : List ℕ). b ∷ []) (u .1));
     }
 
+-- the packed scan: what it serves, the plain scan serves on the unpacked wires
+module _ (s : State) (requests grants : List ℕ) where
+  abbrev wires : List ℕ
+  wires = unpack (s .width) requests
+
+  abbrev packed-outcome : Outcome
+  packed-outcome = PackedScan.cycle s requests grants
+
+  as-scan : packed-outcome .answer .number ≡ 0 → Served s wires (packed-outcome .answer) (unpack (s .width) (packed-outcome .written))
+  as-scan z =
+      let bytes : List ℕ = replicate (s .width) 0 in
+      let same = served-unpacked s requests grants bytes z (length-replicate (s .width) 0) in
+      rw same at (engine-served Scan s wires bytes [] (ap (λ (o : Outcome). o .answer .number) same ∙ z))
+
+  asked-packed : Asked (ran (packedCycle s requests grants))
+  asked-packed =
+      let v = PackedScan.questions (s .width) (s .picks) (s .head) requests (length grants) in
+      let a = RoundRobin.answer s wires in
+      let target = pack (RoundRobin.granting s wires) in
+      record {
+        verdict = v;
+        sparse = packed (s .width) (s .picks) (s .head) requests (length grants);
+        next = after s wires;
+        passes = λ z. counted s wires _ _ (as-scan (ap (λ (o : Outcome). o .answer .number) (writes-is v s a target grants z)));
+        refuses = λ f.
+            let u = unwritten-one v s a target grants f in (u .0, ap (λ (b : List ℕ). b ∷ []) (u .1));
+      }
+
 -- every call
 asked : (c : Call) → Asked (made c)
 asked (engineOpening Scan n m h) = asked-unwriting _ _ _ (state n m h)
@@ -197,8 +228,10 @@ asked (engineOpening Tree n m h) = asked-unwriting _ _ _ (tree-state n m h)
 asked (engineOpening Thermometer n m h) = asked-unwriting _ _ _ (state n m h)
 asked (engineOpening KoggeStone n m h) = asked-unwriting _ _ _ (state n m h)
 asked (busOpening n m h) = asked-unwriting _ _ _ (bus-state n m h)
+asked (packedOpening n m h) = asked-unwriting _ _ _ (packed-state n m h)
 asked (cycle (engineCycle e s requests grants nodes)) = asked-engine s requests grants nodes e
 asked (cycle (busCycle s requests grants byte)) = asked-bus s requests grants byte
+asked (cycle (packedCycle s requests grants)) = asked-packed s requests grants
 asked (imageRead s bytes) = asked-unwriting _ _ _ (image s bytes)
 asked (imageWrite s former) = asked-writing _ _ _ _ _ (write s (s .width) (length former))
 asked (snapshotRead bytes) = asked-unwriting _ _ _ (snapshot bytes)
@@ -217,17 +250,21 @@ pub place-zero : PlaceZero
 place-zero c =
     let q = asked c in
     Lists.split (eqb (q .verdict .number) 0)
-    (λ t _ _. ap (λ (a : Answer). a .place) (q .passes (eqb-true _ 0 t)))
-    (λ f eight ten.
+    (λ t _ _ _. ap (λ (a : Answer). a .place) (q .passes (eqb-true _ 0 t)))
+    (λ f eight ten fourteen.
     let is = q .refuses (eqb-false _ 0 f) .0 in
     let number = ap (λ (a : Answer). a .number) is in
-    ap (λ (a : Answer). a .place) is ∙ q .sparse .at (λ e. eight (number ∙ e)) (λ e. ten (number ∙ e)))
+    ap (λ (a : Answer). a .place) is ∙ q .sparse .at (λ e. eight (number ∙ e)) (λ e. ten (number ∙ e)) (λ e. fourteen (number ∙ e)))
 
-pub head-after : HeadAfter
-head-after (engineCycle e s requests grants nodes) z =
-    let r = engine-served e s requests grants nodes z in
+-- a served cycle by the round-robin rule ends with a station for a head
+rule-head : (s : State) (requests : List ℕ) (a : Answer) (bytes : List ℕ) → Served s requests a bytes
+    → (k : ℕ) × (k < s .width) × (a .state ≡ moved s (At k))
+rule-head s requests a bytes r =
     let k = RuleLaws.next-head (s .width) (s .picks) (s .head) (RoundRobin.asking s requests) (r .allows .station) in
     (k .0, k .1, ap (λ (a : Answer). a .state) (r .answers) ∙ ap (moved s) (k .2))
+
+pub head-after : HeadAfter
+head-after (engineCycle e s requests grants nodes) z = rule-head s requests _ _ (engine-served e s requests grants nodes z)
 head-after (busCycle s requests grants byte) z =
     let r = BusLaws.cycle-served s requests grants byte z in
     let asks = RoundRobin.asking s requests in (
@@ -235,6 +272,7 @@ head-after (busCycle s requests grants byte) z =
       BusRuleLaws.next-below (s .width) (Bus.token s) (BusRule.acknowledged byte) asks (r .token),
       ap (λ (a : Answer). a .state) (r .answers),
     )
+head-after (packedCycle s requests grants) z = rule-head s (unpack (s .width) requests) _ _ (as-scan s requests grants z)
 
 -- the adder's questions have no place
 nowhere : (yes : Bool) (k : ℕ) → (refuseUnless yes k 0) .place ≡ 0

@@ -1,6 +1,6 @@
--- The place of a verdict is 0 except for 8 and 10, whatever a call asks.
+-- The place of a verdict is 0 except for 8, 10 and 14, whatever a call asks.
 -- Assumes nothing.
-use Prim.Native.Nat.{ℕ, _^_}
+use Prim.Native.Nat.{ℕ, _/_, _^_}
 use mathlib.Core.Path.{refl}
 use mathlib.Core.Bool.{Bool, true, false, _&&_, _||_}
 use mathlib.Core.List.{List, [], _∷_, map}
@@ -10,32 +10,38 @@ use Rattle.rules.specs.declared.Head.{Head}
 use Rattle.rules.specs.declared.Head.the-variants.{None, At}
 use Rattle.rules.specs.Lists.{range, member}
 use Rattle.rules.specs.Lists.Laws as Lists
+use Rattle.rules.specs.Packing.{packedLength}
 use Rattle.arbiter.specs.declared.State.{State}
 use Rattle.arbiter.specs.declared.question.Verdict.{Verdict}
 use Rattle.arbiter.specs.Places as Places
 use Rattle.arbiter.specs.Questions as Questions
 use Rattle.arbiter.specs.Questions.{refuseUnless, refuseAtFirst, _then_}
 use Rattle.one_hot.specs.Calls as OneHot
+use Rattle.packed_scan.specs.Calls as PackedScan
 use Rattle.snapshot.specs.Calls as Snapshot
 use Rattle.tree.specs.Calls as Tree
 use Rattle.token_bus.specs.Calls as Bus
 use Rattle.calls.specs.Answers.{Placed}
 
--- a verdict whose place is 0 except for 8 and 10
+-- a verdict whose place is 0 except for 8, 10 and 14
 pub record Sparse (v : Verdict) : Type 0 where
   pub at : Placed (v .number) (v .place)
 
 pub unless : (yes : Bool) (k : ℕ) → Sparse (refuseUnless yes k 0)
-unless true k = record { at = λ _ _. refl }
-unless false k = record { at = λ _ _. refl }
+unless true k = record { at = λ _ _ _. refl }
+unless false k = record { at = λ _ _ _. refl }
 
 eight : (ps : List ℕ) → Sparse (refuseAtFirst 8 ps)
-eight [] = record { at = λ _ _. refl }
-eight (p ∷ ps) = record { at = λ n _. absurd (n refl) }
+eight [] = record { at = λ _ _ _. refl }
+eight (p ∷ ps) = record { at = λ n _ _. absurd (n refl) }
 
 ten : (ps : List ℕ) → Sparse (refuseAtFirst 10 ps)
-ten [] = record { at = λ _ _. refl }
-ten (p ∷ ps) = record { at = λ _ n. absurd (n refl) }
+ten [] = record { at = λ _ _ _. refl }
+ten (p ∷ ps) = record { at = λ _ n _. absurd (n refl) }
+
+fourteen : (ps : List ℕ) → Sparse (refuseAtFirst 14 ps)
+fourteen [] = record { at = λ _ _ _. refl }
+fourteen (p ∷ ps) = record { at = λ _ _ n. absurd (n refl) }
 
 pub both : {a b : Verdict} → Sparse a → Sparse b → Sparse (a then b)
 unfolding _then_
@@ -74,9 +80,19 @@ tree-state n m h =
 pub bus-state : (n m : ℕ) (h : Head) → Sparse (Bus.state n m h)
 bus-state n m h = both (both (width n) (unless (eqb m 1) 3)) (token n h)
 
+pub packed-state : (n m : ℕ) (h : Head) → Sparse (PackedScan.state n m h)
+packed-state n m h = both (both (width n) (unless (eqb m 1) 3)) (head n h)
+
 -- those of a cycle after them, of scan, thermometer arbiter and bus
 pub lent : {v : Verdict} (n : ℕ) (requests : List ℕ) (room : ℕ) → Sparse v → Sparse ((Questions.cycle v n requests room) .verdict)
 lent n requests room before = both (both (both before (size 5 n (length requests))) (size 6 n room)) (bits 0 requests)
+
+-- and of the packed scan
+pub packed : (n m : ℕ) (h : Head) (requests : List ℕ) (room : ℕ) → Sparse (PackedScan.questions n m h requests room)
+packed n m h requests room =
+    both
+    (both (both (packed-state n m h) (size 5 (packedLength n) (length requests))) (size 6 (packedLength n) room))
+    (fourteen (map (λ i. i / 8) (Places.setLines n requests)))
 
 -- those of writing what a state holds
 pub write : (s : State) (stated room : ℕ) → Sparse (Questions.write (s .width) (s .picks) (s .head) stated room)

@@ -1,2 +1,3 @@
 pub mod Calls
 pub mod Lines
+pub mod AsScan
