@@ -61,7 +61,6 @@ ran (engineCycle e s requests grants nodes) =
 ran (busCycle s requests grants byte) =
     let o = Bus.cycle s requests grants byte in
     record { answer = o .answer; given = s; grants = o .written; lent = grants ∷ []; left = o .written ∷ [] }
-
 ran (packedCycle s requests grants) =
     let o = PackedScan.cycle s requests grants in
     record {

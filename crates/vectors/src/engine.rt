@@ -1,10 +1,12 @@
-// The five engines by number, those of the round-robin rule behind the dispatcher, and the calls by number.
+// The six engines by number, four of them behind the dispatcher, and the calls by number.
 use crate::compare;
+use crate::packed;
 use arbiter::Answer;
 use arbiter::State;
 use engines;
 use engines::Dispatch;
 use one_hot::OneHot;
+use packed_scan::PackedScan;
 use rules::Head;
 use snapshot::Snapshot;
 use token_bus::TokenBus;
@@ -19,6 +21,8 @@ pub(crate) const THERMOMETER: usize = 2;
 pub(crate) const KOGGE_STONE: usize = 3;
 
 pub(crate) const BUS: usize = 4;
+
+pub(crate) const PACKED: usize = 5;
 
 pub(crate) const OPEN: usize = 0;
 
@@ -67,7 +71,7 @@ pub(crate) fn most_picks(e: usize, width: usize) -> usize
             32 | 64 | 128 | 256 => 1,
             _ => 0,
         },
-        BUS => lesser(width, 1),
+        BUS | PACKED => lesser(width, 1),
         _ => lesser(width, 8),
     }
 }
@@ -95,12 +99,18 @@ fn open_without(e: usize, width: usize, picks: usize) -> Answer {
     if e == BUS {
         return TokenBus::open(width, picks);
     }
+    if e == PACKED {
+        return PackedScan::open(width, picks);
+    }
     Dispatch::open(dispatched(e), width, picks)
 }
 
 fn open_at(e: usize, width: usize, picks: usize, head: usize) -> Answer {
     if e == BUS {
         return TokenBus::open_at(width, picks, head);
+    }
+    if e == PACKED {
+        return PackedScan::open_at(width, picks, head);
     }
     Dispatch::open_at(dispatched(e), width, picks, head)
 }
@@ -135,7 +145,7 @@ pub(crate) fn call(
     }
 }
 
-// One cycle. The nodes are the tree's alone, and the acknowledge byte is the bus's.
+// One cycle. The nodes are the tree's alone, and the acknowledge byte is the bus's. The packed scan's wires are packed for it.
 fn cycle(
     e: usize,
     s: State,
@@ -147,6 +157,9 @@ fn cycle(
 ) -> Answer {
     if e == BUS {
         return TokenBus(s).cycle(requests, grants, acknowledge);
+    }
+    if e == PACKED {
+        return packed::cycle(s, requests, grants);
     }
     let end = lesser(length, nodes.len());
     Dispatch(s).cycle(dispatched(e), requests, grants, &mut nodes[0..end])

@@ -15,8 +15,8 @@ const PICKS: [usize; 7] = [1, 1, 1, 9, 3, 1, 1];
 
 const NUMBERS: [usize; 7] = [1, 0, 1, 3, 3, 0, 0];
 
-// 7 openings, without a head and at head 0, 5 engines.
-const OPENINGS: usize = 7 * 2 * 5;
+// 7 openings, without a head and at head 0, 6 engines.
+const OPENINGS: usize = 7 * 2 * 6;
 
 // The openings, then a node buffer, then 4 sums.
 pub(crate) const CASES: usize = OPENINGS + 1 + 4;

@@ -6,6 +6,7 @@ mod conversions;
 mod engine;
 mod known;
 mod model;
+mod packed;
 mod pieces;
 mod program;
 mod refusals;
@@ -32,9 +33,14 @@ fn main() {
     lines(
         b"scan, runs on widths 1 to 256|tree, runs on widths 2 to 256|\
         thermometer, runs on widths 1 to 256|Kogge-Stone, runs on widths 1 to 256|\
-        bus, runs on widths 1 to 256|",
+        bus, runs on widths 1 to 256|packed scan, runs on widths 1 to 256|",
         Group::Run,
         runs::CASES,
+    );
+    lines(
+        b"packed scan, known cycles|packed scan, every input for widths 1 to 12|",
+        Group::Packed,
+        packed::CASES,
     );
     lines(
         b"adder, all pairs of bytes for 0 to 9 picks|",

@@ -2,6 +2,7 @@
 use crate::compare;
 use crate::engine;
 use crate::engine::Lengths;
+use crate::packed;
 use arbiter::Answer;
 use arbiter::State;
 use rules::Head;
@@ -16,7 +17,7 @@ pub struct Cycle {
     pub state: State,
 }
 
-// Runs one cycle that is to be served, on the first of these requests, and compares it.
+// Runs one cycle that is to be served, on the first of these requests, and compares it; the packed scan's with the plain scan's too.
 pub(crate) fn run(e: usize, s: State, requests: &[u8], acknowledge: u8) -> Cycle {
     let n = engine::lesser(s.width, WIDEST);
     let lengths = Lengths {
@@ -38,8 +39,10 @@ pub(crate) fn run(e: usize, s: State, requests: &[u8], acknowledge: u8) -> Cycle
     );
     let state = a.state;
     let noded = (e != engine::TREE) | same_nodes(s, requests, &nodes);
+    let beside = (e != engine::PACKED) | packed::as_scan(s, requests);
+    let turned = answered(e, s, requests, acknowledge, a) & same_grants(s, requests, &grants);
     Cycle {
-        same: answered(e, s, requests, acknowledge, a) & same_grants(s, requests, &grants) & noded,
+        same: turned & noded & beside,
         state,
     }
 }

@@ -4,9 +4,11 @@
 use crate::compare;
 use crate::engine;
 use crate::engine::Lengths;
+use crate::packed;
 use crate::report::Outcome;
 use crate::small;
 use arbiter::State;
+use packed_scan::PackedScan;
 use rules::Head;
 use snapshot::Snapshot;
 use thermometer::adder;
@@ -36,13 +38,15 @@ const SECOND_ONE: usize = 1024;
 
 const CODE: usize = 8192;
 
+const UNUSED: usize = 16384;
+
 const STATE: usize = WIDTH | PICKS | HEAD;
 
 // The byte with which buffers are filled that a refused call must leave alone.
 const KEPT: u8 = 7;
 
-// 3 variants, 16,384 sets of faults, 5 engines. The calls that are no engine's are made with the first of these.
-pub(crate) const CASES: usize = 3 * 16384 * 5;
+// 3 variants, 32,768 sets of faults, 6 engines. The calls that are no engine's are made with the first of these.
+pub(crate) const CASES: usize = 3 * 32768 * 6;
 
 // A set of faults, in one variant.
 struct Faults {
@@ -83,11 +87,11 @@ impl Faults {
 
 pub(crate) fn case(call: usize, i: usize) -> Outcome {
     let f = Faults {
-        set: i / 3 % 16384,
+        set: i / 3 % 32768,
         variant: i % 3,
     };
-    let e = i / 49152;
-    let known = (f.set & (asked(call) | engine_asks(call, e))) == f.set;
+    let e = i / 98304;
+    let known = (f.set & asked_by(call, e)) == f.set;
     if (f.set == 0) | !known | ((engine::CYCLE < call) & (0 < e)) {
         return Outcome::Skipped;
     }
@@ -107,17 +111,25 @@ fn asked(call: usize) -> usize {
     }
 }
 
-// The questions that only the tree asks, and only the bus, by 5 × call + engine: opening without a head, opening with one by the
+// The questions that only the tree asks, and only the bus, by 6 × call + engine: opening without a head, opening with one by the
 // tree, and the cycle.
 fn engine_asks(call: usize, e: usize) -> usize {
-    match 5 * (call % 8) + e % 5 {
+    match 6 * (call % 8) + e % 6 {
         1 => TREE_WIDTH,
         4 => HEAD,
-        6 => TREE_WIDTH,
-        11 => TREE_WIDTH | NODES,
-        14 => ACKNOWLEDGE,
+        7 => TREE_WIDTH,
+        13 => TREE_WIDTH | NODES,
+        16 => ACKNOWLEDGE,
         _ => 0,
     }
+}
+
+// The questions that a call by an engine asks. The packed scan's cycle asks 14 in place of 8.
+fn asked_by(call: usize, e: usize) -> usize {
+    if (call == engine::CYCLE) & (e == engine::PACKED) {
+        return STATE | READ | WRITE | UNUSED;
+    }
+    asked(call) | engine_asks(call, e)
 }
 
 // Whether a call refuses as it should.
@@ -128,13 +140,23 @@ fn refuses(call: usize, e: usize, f: Faults, s: State) -> bool {
         engine::READ_SNAPSHOT => read_snapshot(f),
         engine::ADD => add(f),
         engine::WRITE_SNAPSHOT => on_buffers(call, e, f, s, 4),
-        _ => on_buffers(call, e, f, s, stations(s.width)),
+        _ => with_buffers(call, e, f, s),
     }
 }
 
-// A state of 4 stations with these faults. The last picks are one more than the engine takes for 4 stations.
+// A cycle, or a call on an image. The packed scan's buffers are packed.
+fn with_buffers(call: usize, e: usize, f: Faults, s: State) -> bool {
+    let n = stations(s.width);
+    if (call == engine::CYCLE) & (e == engine::PACKED) {
+        return on_packed(f, s, packed::size(n));
+    }
+    on_buffers(call, e, f, s, n)
+}
+
+// A state of 4 stations with these faults, for the packed scan of 12, which take two bytes. The last picks are one more than the
+// engine takes.
 fn state(e: usize, f: Faults) -> State {
-    let tree_width = f.value(TREE_WIDTH, 4, [1, 6, 255]);
+    let tree_width = f.value(TREE_WIDTH, right_width(e), [1, 6, 255]);
     let width = f.value(WIDTH, tree_width, [0, 257, 1000]);
     let picks = f.value(PICKS, 1, [0, 9, engine::most_picks(e, 4) + 1]);
     State {
@@ -142,6 +164,13 @@ fn state(e: usize, f: Faults) -> State {
         picks,
         head: head(e, f, width),
     }
+}
+
+fn right_width(e: usize) -> usize {
+    if e == engine::PACKED {
+        return 12;
+    }
+    4
 }
 
 // The last is no token where the engine wants one.
@@ -188,6 +217,20 @@ fn on_buffers(call: usize, e: usize, f: Faults, s: State, n: usize) -> bool
         acknowledge,
     );
     compare::answer(a, f.first(), place(f, n), 0, s) & kept(&written) & kept(&nodes)
+}
+
+// A cycle of the packed scan on `n` bytes, the first of them 1. The fault is the first bit past the stations, the last, or all.
+fn on_packed(f: Faults, s: State, n: usize) -> bool
+    requires { ⌜ n ≤ 32 ⌝ }
+{
+    let read = engine::lesser(f.length(READ, n), 33);
+    let write = engine::lesser(f.length(WRITE, n), 33);
+    let unused = f.byte(UNUSED, 0, [16, 128, 240]);
+    let first = set([0u8; 512], 0, 1);
+    let requests = set(first, small::last(n), unused % 255 + 1);
+    let mut written = [KEPT; 512];
+    let a = PackedScan(s).cycle(&requests[0..read], &mut written[0..write]);
+    compare::answer(a, f.first(), place(f, n), 0, s) & kept(&written)
 }
 
 // A snapshot with a head past the end twice, and then one that is marked as none. Reading it asks 5, 8, 3 and 4, in this order.
@@ -241,11 +284,12 @@ fn spot(f: Faults, fault: usize, n: usize, first: usize) -> usize {
     f.value(fault, 0, [first, small::last(n), n / 2])
 }
 
-// The place that is refused: the first byte that is not a bit, or the second 1.
+// The place that is refused: the first byte that is not a bit, the second 1, or the last byte of packed wires.
 fn place(f: Faults, n: usize) -> usize {
     match f.first() {
         8 => spot(f, BITS, n, 0),
         10 => spot(f, SECOND_ONE, n, 1),
+        14 => small::last(n),
         _ => 0,
     }
 }

@@ -2,6 +2,7 @@
 // for no input of the group are passed over.
 use crate::conversions;
 use crate::known;
+use crate::packed;
 use crate::pieces;
 use crate::refusals;
 use crate::report::Outcome;
@@ -24,6 +25,7 @@ pub enum Group {
     Code,
     Refusal,
     Conversion,
+    Packed,
 }
 
 // No group has more lines.
@@ -92,6 +94,7 @@ fn case(group: Group, which: usize, i: usize, p: Progress) -> Progress {
         Group::Code => sums::code(i),
         Group::Refusal => refusals::case(which, i),
         Group::Conversion => conversions::case(which, i),
+        Group::Packed => packed::case(which, i),
     };
     p.add(outcome, i)
 }
