@@ -27,7 +27,7 @@ pub struct State {
     pub head: Head,
 }
 
-// What a call answers: the number of its refusal (0 when served), the place for refusals 8 and 10, the count of grants (0 for
+// What a call answers: the number of its refusal (0 when served), the place for refusals 8, 10 and 14, the count of grants (0 for
 // a call that is no cycle) and the state.
 pub struct Answer {
     pub number: usize,

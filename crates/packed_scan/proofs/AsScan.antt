@@ -1,8 +1,8 @@
 -- The packed scan beside the plain scan: where one is served, so is the other, since packing and unpacking undo each other.
 -- Assumes nothing.
 use Prim.Native.Nat.{ℕ, _+_, _*_, _/_, _%_, _≤_, _<_}
-use mathlib.Core.Path.{_≡_, refl, sym, ap, ap₂, _∙_}
-use mathlib.Core.Bool.{Bool, false}
+use mathlib.Core.Path.{_≡_, refl, sym, ap, _∙_}
+use mathlib.Core.Bool.{Bool}
 use mathlib.Core.List.{List, [], map}
 use native.Mathlib.Omega.{arith}
 use lib.Dec.{eqb, ltb}
@@ -15,9 +15,6 @@ use Rattle.rules.specs.Packing.{line, packedLength, pack, unpack}
 use Rattle.rules.specs.Packing.Laws as Packing
 use Rattle.rules.specs.RoundRobin.{granted, grants}
 use Rattle.rules.specs.RoundRobin.Laws as RoundRobin
-use Rattle.arbiter.specs.declared.Answer.{Answer}
-use Rattle.arbiter.specs.declared.State.{State}
-use Rattle.arbiter.specs.declared.question.Verdict.{Verdict}
 use Rattle.arbiter.specs.Answers.{Outcome}
 use Rattle.arbiter.specs.Answers.Laws.{writes-passed, writes-is}
 use Rattle.arbiter.specs.Cycle as Scan
@@ -27,7 +24,7 @@ use Rattle.arbiter.specs.Questions as Questions
 use Rattle.arbiter.specs.Questions.{_then_, refuseAtFirst}
 use Rattle.arbiter.specs.Questions.Laws as QuestionLaws
 use Rattle.packed_scan.specs.Calls as PackedScan
-use Rattle.packed_scan.specs.Calls.Laws.{Ready, ready}
+use Rattle.packed_scan.specs.Calls.Laws.{ready}
 use Rattle.packed_scan.specs.AsScan.{ServedUnpacked, ServedPacked}
 
 -- bytes that are 0 or 1, and none past the last

@@ -1,7 +1,7 @@
 -- `first_request` meets its contract: by the table in the byte of its line, and then in the next byte that is not 0.
 -- Assumes nothing.
-use Prim.Native.Nat.{ℕ, _/_, _<_}
-use mathlib.Core.Path.{_≡_, refl, sym, _∙_}
+use Prim.Native.Nat.{_/_, _<_}
+use mathlib.Core.Path.{sym, _∙_}
 use native.Mathlib.Omega.{arith}
 use lib.ListN.{length}
 use borrow.Author.Needs.{needs}

@@ -1,7 +1,7 @@
 -- Laws of the packed scan's calls: what is known once the questions have passed; and that a served cycle is the plain scan's on the
 -- unpacked wires.
 -- Assumes nothing.
-use Prim.Native.Nat.{ℕ, _/_, _≤_, _<_}
+use Prim.Native.Nat.{ℕ, _/_}
 use mathlib.Core.Path.{_≡_, refl, sym, ap, _∙_}
 use mathlib.Core.Bool.{true, false}
 use mathlib.Core.List.{List, map}

@@ -2,8 +2,7 @@
 -- Assumes nothing.
 use Prim.Native.Nat.{ℕ}
 use mathlib.Core.Path.{_≡_, refl}
-use mathlib.Core.List.{List, [], _∷_, _++_, map}
-use lib.ListN.{replicate}
+use mathlib.Core.List.{List, [], _∷_, map}
 use Rattle.rules.specs.Packing.{unpack, packedLength, pack, firstLine}
 
 -- 11 stations of which 0, 3, 7 and 9 ask: bits 0, 3 and 7 of the first byte, and bit 1 of the second

@@ -4,23 +4,22 @@
 use Prim.Native.Nat.{ℕ, _+_, _-_, _%_, _≤_, _<_}
 use mathlib.Core.Path.{_≡_, refl, sym, ap, _∙_}
 use mathlib.Core.Bool.{Bool, true, false, cond}
-use mathlib.Core.List.{List, [], _∷_, _++_, append-nil}
+use mathlib.Core.List.{List, [], _∷_}
 use native.Mathlib.Omega.{arith}
-use lib.Dec.{eqb, ltb}
 use lib.ListN.{length, set, replicate}
-use borrow.Author.Tests.{eq-eqb, ltb-true, ltb-false, lt-ltb, le-leb}
+use borrow.Author.Tests.{lt-ltb, le-leb}
 use Rattle.rules.specs.declared.Head.{Head}
 use Rattle.rules.specs.declared.Head.the-variants.{None, At}
-use Rattle.rules.specs.Lists.{bit, range, filter, count, marks}
+use Rattle.rules.specs.Lists.{bit, count, marks}
 use Rattle.rules.specs.Lists.Laws as Lists
-use Rattle.rules.specs.RoundRobin.{start, order}
+use Rattle.rules.specs.RoundRobin.{start}
 use Rattle.rules.specs.RoundRobin.Laws as RoundRobin
 use Rattle.rules.specs.Bus as Bus
 use Rattle.rules.specs.Bus.Laws as BusLaws
 use Rattle.arbiter.specs.declared.State.{State}
 use Rattle.arbiter.specs.declared.question.Reading.{Reading}
 use Rattle.arbiter.specs.Places.{ones, first, Bits, highest}
-use Rattle.arbiter.specs.Places.Laws.{first-none, first-some}
+use Rattle.arbiter.specs.Places.Laws.{first-none}
 use Rattle.arbiter.specs.Questions as Questions
 use Rattle.arbiter.specs.Questions.{_then_}
 use Rattle.arbiter.specs.Questions.Laws.{then-served, then-passed, width-served, token-served, Lent, lent, lends}

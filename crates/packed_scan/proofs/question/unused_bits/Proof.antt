@@ -1,6 +1,6 @@
 -- `unused_bits` meets its contract: past the stations there is at most the rest of the last byte.
 -- Assumes nothing.
-use Prim.Native.Nat.{ℕ, _+_, _*_, _/_, _<_}
+use Prim.Native.Nat.{_+_, _*_, _/_, _<_}
 use mathlib.Core.Bool.{false}
 use mathlib.Core.Path.{_≡_, sym, ap, _∙_}
 use native.Mathlib.Omega.{arith}
