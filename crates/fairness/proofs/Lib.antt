@@ -2,3 +2,4 @@ pub mod Cycles
 pub mod Calls
 pub mod Sharpness
 pub mod Waiting
+pub mod Packed
