@@ -14,9 +14,11 @@ use Rattle.rules.specs.Lists.{range}
 use Rattle.rules.specs.Lists.Laws as Lists
 use Rattle.rules.specs.RoundRobin.{start}
 use Rattle.rules.specs.RoundRobin.Laws.{start-none, start-at}
-use Rattle.rules.specs.KoggeStone.{distances, levels, input, inputs, network}
-use Rattle.rules.specs.KoggeStone.Laws.{inputs-runs, inputs-codes, network-levels}
+use Rattle.rules.specs.KoggeStone.{distances, levels, network}
+use Rattle.rules.specs.KoggeStone.Laws.{network-levels}
+use Rattle.rules.specs.Thermometer.{input, inputs}
 use Rattle.rules.specs.Thermometer.Laws.{code-bit}
+use Rattle.rules.specs.Thermometer.Running.{inputs-runs, inputs-codes}
 use Rattle.arbiter.specs.Decisions.{requested}
 use Rattle.arbiter.specs.Places.{Bits}
 use Rattle.kogge_stone.specs.Steps.{Codes}

@@ -20,7 +20,6 @@ ghost use Prim.Native.Nat.{_+_, _≤_, _<_};
 ghost use lib.Count.{ones};
 ghost use lib.Dec.{eqb, ltb};
 ghost use lib.ListN.{length};
-ghost use Rattle.rules.specs.KoggeStone as Network;
 ghost use Rattle.rules.specs.Lists.{bit, before};
 ghost use Rattle.rules.specs.RoundRobin as RoundRobin;
 ghost use Rattle.rules.specs.RoundRobin.{start};
@@ -103,14 +102,14 @@ fn arbitrate(
     read_off(full, head, requests, &counts[0..end], grants)
 }
 
-// Reads the grants off the network's counts, of which there is one before each position of the order and one of all, and decides.
+// Reads the grants off the running codes, of which there is one before each position of the order and one past the last, and decides.
 // The station whose own request brings the count to that of all is granted last.
 fn read_off(full: u8, head: Head, requests: &[u8], counts: &[u8], grants: &mut [u8]) -> Decision
     requires { ⌜ Rule.isCode 8 full ≡ true ⌝ }
     requires { ⌜ start head < length (now requests) ⌝ }
     requires { ⌜ length (now requests) ≤ maxWidth ⌝ }
     requires { ⌜ length (now grants) ≡ length (now requests) ⌝ }
-    requires { ⌜ now counts ≡ Network.counts (length (now requests)) (ones full) head (requested (now requests)) ⌝ }
+    requires { ⌜ now counts ≡ Rule.runningCodes (length (now requests)) (ones full) head (requested (now requests)) ⌝ }
     ensures { λ r. ⌜ r ≡ decision (length (now (requests .entry))) (ones full) head (requested (now (requests .entry))) ⌝ }
     ensures { λ _. ⌜ now (grants .exit) ≡ RoundRobin.grants (length (now (requests .entry))) (ones full) head (requested (now (requests .entry))) ⌝ }
 {

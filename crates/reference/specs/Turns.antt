@@ -33,6 +33,10 @@ nearer n start requests w = tally (before n start requests w) 0 n
 unfoldable pub granted : ℕ → ℕ → ℕ → List ℕ → ℕ → Bool
 granted n m start requests w = ltb start n && ltb w n && asks requests w && ltb (nearer n start requests w) m
 
+-- a station's count: how many are before it, or the picks if these are fewer
+unfoldable pub ahead : ℕ → ℕ → ℕ → List ℕ → ℕ → ℕ
+ahead n m start requests w = lesser m (nearer n start requests w)
+
 -- how many are granted: the picks, or all that ask if these are fewer
 unfoldable pub count : ℕ → ℕ → List ℕ → ℕ
 count n m requests = lesser m (tally (asks requests) 0 n)

@@ -37,6 +37,13 @@ pub fn granted(width: usize, picks: usize, start: usize, requests: &[u8], statio
     (start < width) & (station < width) & waits & (ahead < picks)
 }
 
+// A station's count: how many that ask are nearer to `start`, `picks` at the most.
+pub fn ahead(width: usize, picks: usize, start: usize, requests: &[u8], station: usize) -> usize
+    ensures { λ r. ⌜ r ≡ Turns.ahead width picks start (now (requests .entry)) station ⌝ }
+{
+    lesser(picks, nearer(width, start, requests, station))
+}
+
 // How many a cycle grants: `picks`, or all that ask if these are fewer.
 pub fn count(width: usize, picks: usize, requests: &[u8]) -> usize
     ensures { λ r. ⌜ r ≡ Turns.count width picks (now (requests .entry)) ⌝ }

@@ -1,15 +1,15 @@
 -- The Kogge-Stone network that counts: 02, N1, after 004. It works on codes, one for each position of the order: position 0 is
 -- the first station's. It is shut like the round-robin rule: the engine goes by Laws.
 -- Assumes nothing.
-use Prim.Native.Nat.{ℕ, _-_, _^_, min}
+use Prim.Native.Nat.{ℕ, _-_, _^_}
 use mathlib.Core.Bool.{Bool, cond}
 use mathlib.Core.List.{List, [], _∷_, map}
 use lib.Dec.{ltb}
 use lib.ListN.{length, getD}
 use Rattle.rules.specs.declared.Head.{Head}
-use Rattle.rules.specs.Lists.{bit, range, filter, before}
+use Rattle.rules.specs.Lists.{range, filter, before}
 use Rattle.rules.specs.RoundRobin.{order}
-use Rattle.rules.specs.Thermometer.{code, add}
+use Rattle.rules.specs.Thermometer.{add, inputs}
 pub mod Laws
 mod Known
 
@@ -28,15 +28,7 @@ pub levels : ℕ → List ℕ → List ℕ → List ℕ
 levels m [] codes = codes
 levels m (d ∷ ds) codes = levels m ds (joined m d codes)
 
--- a station's request as a code: of 1 if it asks, and of 0 if not
-abbrev pub input : ℕ → (ℕ → Bool) → ℕ → ℕ
-input m asks w = code (min m (bit (asks w)))
-
--- what goes in, N1's "over turn order"
-pub inputs : ℕ → ℕ → Head → (ℕ → Bool) → List ℕ
-inputs n m h asks = map (input m asks) (order n h)
-
--- what comes out: for each position the code of how many ask up to it, its own station included
+-- what comes out of the requests as codes, N1's "over turn order": for each position the code of how many ask up to it, its own station included
 pub network : ℕ → ℕ → Head → (ℕ → Bool) → List ℕ
 network n m h asks = levels m (distances n) (inputs n m h asks)
 

@@ -11,6 +11,7 @@ mod pieces;
 mod program;
 mod refusals;
 mod report;
+mod running;
 mod runs;
 mod small;
 mod sums;
@@ -51,6 +52,11 @@ fn main() {
         b"adder, codes of counts and counts of bytes|",
         Group::Code,
         sums::CODES,
+    );
+    lines(
+        b"running codes, examples of 001|running codes, every input for widths 1 to 8|",
+        Group::Running,
+        running::CASES,
     );
     lines(
         b"opening without a head, refusals|opening with a head, refusals|cycle, refusals|\

@@ -7,6 +7,7 @@ use crate::pieces;
 use crate::refusals;
 use crate::report::Outcome;
 use crate::report::Tally;
+use crate::running;
 use crate::runs;
 use crate::small;
 use crate::sums;
@@ -23,6 +24,7 @@ pub enum Group {
     Run,
     Sum,
     Code,
+    Running,
     Refusal,
     Conversion,
     Packed,
@@ -92,6 +94,7 @@ fn case(group: Group, which: usize, i: usize, p: Progress) -> Progress {
         Group::Run => return runs::case(which, i, p),
         Group::Sum => sums::case(i),
         Group::Code => sums::code(i),
+        Group::Running => running::case(which, i),
         Group::Refusal => refusals::case(which, i),
         Group::Conversion => conversions::case(which, i),
         Group::Packed => packed::case(which, i),

@@ -62,7 +62,8 @@ read-off-requires c κs =
             omega arith,
             led (a .width) _ _ (ap length (r .run .ensures) ∙ Network.network-length _ _ (a .head) _ (omega arith) ∙ size)
                 ∙ ap {B = List ℕ} (λ l. 0 ∷ l) (r .run .ensures)
-                ∙ sym (Network.counts-shifted _ _ (a .head) _),
+                ∙ sym (Network.counts-shifted _ _ (a .head) _)
+                ∙ Network.counts-running _ _ (a .head) _ (omega arith),
           ),
         ),
       ),

@@ -1,27 +1,24 @@
 -- Laws of the network: it counts what the serial counts say, since the adder may be regrouped.
 -- Assumes nothing.
-use Prim.Native.Nat.{ℕ, zero, suc, _+_, _-_, _*_, _%_, _^_, _≤_, _<_, min}
+use Prim.Native.Nat.{ℕ, zero, suc, _+_, _-_, _*_, _^_, _≤_, _<_}
 use mathlib.Core.Path.{_≡_, refl, sym, ap, ap₂, _∙_}
 use mathlib.Core.Bool.{Bool, true}
-use mathlib.Core.List.{List, [], _∷_, _++_, map, map-append}
+use mathlib.Core.List.{List, [], _∷_, map}
 use native.Mathlib.Omega.{arith}
 use native.Mathlib.Nat.{add-zero, add-suc, zero-add, pow-suc}
-use native.Mathlib.Numerals.{add-one}
 use lib.Dec.{ltb}
-use lib.Count.{ones}
-use lib.ListN.{length, getD, take, length-map}
+use lib.ListN.{length, getD}
 use lib.Pow.{pow-pos}
-use lib.Seq.{take-suc, take-all, take-append-add}
+use lib.Seq.{ext-getD}
 use borrow.Author.Tests.{ltb-true, ltb-false, lt-ltb, le-ltb}
 use Rattle.rules.specs.declared.Head.{Head}
-use Rattle.rules.specs.declared.Head.the-variants.{At}
-use Rattle.rules.specs.Lists.{bit, range, filter, count, before}
+use Rattle.rules.specs.Lists.{range, filter}
 use Rattle.rules.specs.Lists.Laws as Lists
-use Rattle.rules.specs.RoundRobin.{start, order, granted, next}
-use Rattle.rules.specs.RoundRobin.Laws as RoundRobin
-use Rattle.rules.specs.Thermometer.{code, isCode, add, saturated}
-use Rattle.rules.specs.Thermometer.Laws.{ones-code, is-code, add-codes, add-regroup}
-use Rattle.rules.specs.KoggeStone.{distances, joined, levels, input, inputs, network, counts, countBefore}
+use Rattle.rules.specs.RoundRobin.{start}
+use Rattle.rules.specs.Thermometer.{code, isCode, add, saturated, inputs, running, runningCodes}
+use Rattle.rules.specs.Thermometer.Laws.{add-none, add-regroup}
+use Rattle.rules.specs.Thermometer.Running.{running-first, running-next, inputs-codes, inputs-length, codes-inputs, codes-length, code-before}
+use Rattle.rules.specs.KoggeStone.{distances, joined, levels, network, counts, countBefore}
 
 -- as many codes after a joining
 pub joined-length : (m d : ℕ) (codes : List ℕ) → length (joined m d codes) ≡ length codes
@@ -155,41 +152,13 @@ prefix m ins p l =
     } in
     rw (from-first (length ins)) (whole m ins ins (length ins) 0 (omega arith) start p l)
 
--- the codes of the stations' requests
-coded : (m : ℕ) (asks : ℕ → Bool) (ws : List ℕ) (p : ℕ) → p < length ws
-    → getD (map (input m asks) ws) p 0 ≡ input m asks (getD ws p 0)
-coded m asks [] p l = absurd (omega arith)
-coded m asks (w ∷ ws) zero l = refl
-coded m asks (w ∷ ws) (suc p) l = coded m asks ws p (omega arith)
-
--- added up one after the other they are the serial count
-serial : (m : ℕ) (asks : ℕ → Bool) (ws : List ℕ) (p : ℕ) → p < length ws
-    → sum m (map (input m asks) ws) 0 p ≡ code (min m (count asks (take (suc p) ws)))
+-- such a sum from the first on is the running code past it
+sum-running : (m : ℕ) (ins : List ℕ) (p : ℕ) → p < length ins → isCode m (getD ins 0 0) ≡ true → sum m ins 0 p ≡ getD (running m 0 ins) (suc p) 0
 unfolding sum
-serial m asks ws zero l =
-    coded m asks ws 0 l ∙ ap code (omega (arith, ap (count asks) (take-suc ws 0 0 l)))
-serial m asks ws (suc p) l =
-    ap₂ (add m) (serial m asks ws p (omega arith)) (rw (zero-add p) (coded m asks ws (suc p) l))
-    ∙ add-codes m (min m (count asks (take (suc p) ws))) (min m (bit (asks (getD ws (suc p) 0))))
-    ∙ ap code (omega (
-      arith,
-      ap (count asks) (take-suc ws (suc p) 0 l),
-      Lists.count-append asks (take (suc p) ws) (getD ws (suc p) 0 ∷ []),
-    ))
-
--- what goes in is two runs of stations: from the first to the end, and from 0 up to the first
-pub inputs-runs : (n m : ℕ) (h : Head) (asks : ℕ → Bool)
-    → inputs n m h asks ≡ map (input m asks) (range (start h) (n - start h)) ++ map (input m asks) (range 0 (start h))
-unfolding inputs
-inputs-runs n m h asks = rw (RoundRobin.order-runs n h) (map-append (input m asks) (range (start h) (n - start h)) (range 0 (start h)))
-
--- and is codes
-pub inputs-codes : (n m : ℕ) (h : Head) (asks : ℕ → Bool) (p : ℕ) → p < length (inputs n m h asks) → isCode m (getD (inputs n m h asks) p 0) ≡ true
-unfolding inputs
-inputs-codes n m h asks p l =
-    let w = getD (order n h) p 0 in
-    rw (coded m asks (order n h) p (omega (arith, length-map (order n h) (input m asks))))
-    (is-code m (min m (bit (asks w))) (omega arith))
+sum-running m ins zero l t =
+    sym (running-next m 0 ins 0 l ∙ rw (running-first m 0 ins) (add-none m (getD ins 0 0) t))
+sum-running m ins (suc p) l t =
+    rw (sum-running m ins p (omega arith) t, zero-add p) (sym (running-next m 0 ins (suc p) l))
 
 -- the counts are what comes out, one position on
 pub counts-shifted : (n m : ℕ) (h : Head) (asks : ℕ → Bool) → counts n m h asks ≡ 0 ∷ network n m h asks
@@ -204,75 +173,35 @@ levels-length m (d ∷ ds) codes = levels-length m ds (joined m d codes) ∙ joi
 
 -- a network with one position for each station
 module _ (n m : ℕ) (h : Head) (asks : ℕ → Bool) (station : start h ≤ n) where
-  inputs-length : length (inputs n m h asks) ≡ n
-  unfolding inputs
-  inputs-length = length-map (order n h) _ ∙ RoundRobin.order-length n h station
-
   -- the network is told by what goes in
   pub network-levels : levels m (distances (length (inputs n m h asks))) (inputs n m h asks) ≡ network n m h asks
   unfolding network
-  network-levels = rw inputs-length
+  network-levels = rw (inputs-length n m h asks station)
 
   pub network-length : length (network n m h asks) ≡ n
   unfolding network
-  network-length = levels-length m (distances n) (inputs n m h asks) ∙ inputs-length
+  network-length = levels-length m (distances n) (inputs n m h asks) ∙ inputs-length n m h asks station
 
   -- and there is one count more
   pub counts-length : length (counts n m h asks) ≡ suc n
   counts-length = rw (counts-shifted n m h asks) (ap suc network-length)
 
-  -- the counts by positions: before position p, how many of the first p ask, m at the most
-  counts-at : (p : ℕ) → p ≤ n → getD (counts n m h asks) p 0 ≡ code (min m (count asks (take p (order n h))))
-  unfolding counts inputs code
-  counts-at zero l = let none : min m 0 ≡ 0 = omega arith in rw none
-  counts-at (suc p) l =
-      ap (λ (codes : List ℕ). getD codes p 0) (sym network-levels)
-      ∙ prefix m (inputs n m h asks) p (omega (arith, inputs-length))
-      ∙ serial m asks (order n h) p (omega (arith, RoundRobin.order-length n h station))
+  -- the network's counts are the running codes: N1's counts and N3's are the same list
+  pub counts-running : counts n m h asks ≡ runningCodes n m h asks
+  unfolding counts
+  counts-running =
+      ext-getD 0 (counts n m h asks) (runningCodes n m h asks) (counts-length ∙ sym (codes-length n m h asks station)) at
+    where
+      at : (p : ℕ) → p < length (counts n m h asks) → getD (counts n m h asks) p 0 ≡ getD (runningCodes n m h asks) p 0
+      at zero l = rw (codes-inputs n m h asks) (sym (running-first m 0 (inputs n m h asks)))
+      at (suc p) l =
+          let ins = inputs n m h asks in
+          let fits : p < length ins = omega (arith, counts-length, inputs-length n m h asks station) in
+          ap (λ (codes : List ℕ). getD codes p 0) (sym network-levels)
+          ∙ prefix m ins p fits
+          ∙ rw (codes-inputs n m h asks) (sum-running m ins p fits (inputs-codes n m h asks 0 (omega arith)))
 
   -- N1's "It must equal the serial counts at each station for any N and m"
   pub count-serial : (w : ℕ) → w < n → countBefore n m h asks w ≡ code (saturated n m h asks w)
-  unfolding countBefore saturated
-  count-serial w l =
-      counts-at (length (before w (order n h))) (omega (arith, RoundRobin.before-length n h w station l))
-      ∙ rw (← Lists.before-take w (order n h))
-
-  -- the same by the station's position
-  pub count-position : (w : ℕ) → w < n → getD (counts n m h asks) (length (before w (order n h))) 0 ≡ code (saturated n m h asks w)
   unfolding countBefore
-  count-position w l = count-serial w l
-
-  -- before the end stand all
-  pub count-all : getD (counts n m h asks) n 0 ≡ code (length (granted n m h asks))
-  count-all =
-      counts-at n (omega arith)
-      ∙ rw (take-all n (order n h) (omega (arith, RoundRobin.order-length n h station)), RoundRobin.granted-length n m h asks)
-
-  -- the station at whose position the last count is reached was granted last
-  pub count-last : (w : ℕ) → w < n
-      → let p = length (before w (order n h)) in
-      (getD (counts n m h asks) p 0 ≡ getD (counts n m h asks) n 0 → ⊥) → getD (counts n m h asks) (suc p) 0 ≡ getD (counts n m h asks) n 0
-      → next n m h asks ≡ At ((w + 1) % n)
-  count-last w l less same =
-      let p = length (before w (order n h)) in
-      let inside = RoundRobin.before-length n h w station l in
-      let split = Lists.before-split w (order n h) (RoundRobin.order-member n h w station l) in
-      let upto : take (suc p) (order n h) ≡ before w (order n h) ++ (w ∷ []) =
-      rw (← add-one p) (ap (take (p + 1)) (split .1) ∙ take-append-add (before w (order n h)) (w ∷ split .0) 1) in
-      let t = count asks (before w (order n h)) in
-      let few : getD (counts n m h asks) p 0 ≡ code (min m t) = counts-at p (omega arith) ∙ rw (← Lists.before-take w (order n h)) in
-      let reached : min m (t + bit (asks w)) ≡ length (granted n m h asks) =
-      omega (
-        arith,
-        ap ones (sym (counts-at (suc p) (omega arith)) ∙ same ∙ count-all),
-        ones-code (min m (count asks (take (suc p) (order n h)))),
-        ones-code (length (granted n m h asks)),
-        ap (count asks) upto,
-        Lists.count-append asks (before w (order n h)) (w ∷ []),
-      ) in
-      let other : min m t ≡ length (granted n m h asks) → ⊥ = λ e. less (few ∙ ap code e ∙ sym count-all) in
-      Lists.split (asks w)
-      (λ a.
-      RoundRobin.next-last n m h asks (filter asks (before w (order n h))) w
-      (RoundRobin.granted-upto n m h asks w station l a (omega (arith, reached, ap bit a))))
-      (λ a. absurd (other (omega (arith, reached, ap bit a))))
+  count-serial w l = rw counts-running (code-before n m h asks station w l)

@@ -152,6 +152,21 @@ before-next w [] l = absurd (omega arith)
 before-next w (x ∷ xs) l =
     split (eqb w x) (λ t. rw t (sym (eqb-true w x t))) (λ f. rw f (before-next w xs (omega (arith, rw f at l))))
 
+-- whoever stands at a place is one of the list
+pub count-at : (xs : List ℕ) (p : ℕ) → p < length xs → 0 < count (eqb (getD xs p 0)) xs
+count-at [] p l = absurd (omega arith)
+count-at (x ∷ xs) zero l = rw (eq-eqb x x refl) (omega arith)
+count-at (x ∷ xs) (suc p) l = omega (arith, count-at xs p (omega arith))
+
+-- before the one at place p, if it stands nowhere else, stand the first p
+pub before-at : (xs : List ℕ) (p : ℕ) → p < length xs → count (eqb (getD xs p 0)) xs ≡ 1 → before (getD xs p 0) xs ≡ take p xs
+before-at [] p l e = absurd (omega arith)
+before-at (x ∷ xs) zero l e = rw (eq-eqb x x refl)
+before-at (x ∷ xs) (suc p) l e =
+    split (eqb (getD xs p 0) x)
+    (λ t. absurd (omega (arith, count-at xs p (omega arith), rw t at e)))
+    (λ f. rw f (ap {B = List ℕ} (λ i. x ∷ i) (before-at xs p (omega arith) (omega (arith, rw f at e)))))
+
 -- no more pass before w than in the whole list
 pub count-before-le : (p : ℕ → Bool) (w : ℕ) (xs : List ℕ) → count p (before w xs) ≤ count p xs
 count-before-le p w [] = omega arith
@@ -287,6 +302,12 @@ range-once w a (suc k) h l =
     split (eqb w a)
     (λ e. rw e (omega (arith, uncounted w (range (suc a) k) (below-range w (suc a) k (omega (arith, eqb-true w a e))))))
     (λ e. rw e (omega (arith, range-once w (suc a) k (omega (arith, eqb-false w a e)) (omega arith))))
+
+-- what a map holds at a place
+pub getD-mapped : (f : ℕ → ℕ) (xs : List ℕ) (p : ℕ) → p < length xs → getD (map f xs) p 0 ≡ f (getD xs p 0)
+getD-mapped f [] p l = absurd (omega arith)
+getD-mapped f (x ∷ xs) zero l = refl
+getD-mapped f (x ∷ xs) (suc p) l = getD-mapped f xs p (omega arith)
 
 -- a table over a range holds at each place the entry of its number
 pub getD-table : (f : ℕ → ℕ) (a k i : ℕ) → i < k → getD (map f (range a k)) i 0 ≡ f (a + i)

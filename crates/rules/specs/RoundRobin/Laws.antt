@@ -11,7 +11,7 @@ use native.Mathlib.Nat.{mod-eq-of-lt, mod-self, mod-lt, zero-add}
 use native.Mathlib.Numerals.{add-one}
 use lib.Dec.{ltb, eqb}
 use borrow.Author.Tests.{ltb-true, ltb-false, eq-eqb}
-use lib.ListN.{length, getD, length-append, length-take}
+use lib.ListN.{length, getD, take, length-append, length-take}
 use Rattle.rules.specs.declared.Head.{Head}
 use Rattle.rules.specs.declared.Head.the-variants.{None, At}
 use Rattle.rules.specs.Lists.{bit, range, filter, count, member, marks, before, last}
@@ -140,6 +140,18 @@ before-low n h w l =
     ap (before w) (order-runs n h)
     ∙ Lists.before-right w (range s (n - s)) (range 0 s) (Lists.below-range w s (n - s) l)
     ∙ rw (Lists.before-range w 0 s (omega arith) (omega arith), all)
+
+-- before the station at position p stand the first p
+pub before-at : (n : ℕ) (h : Head) (p : ℕ) → start h ≤ n → p < n → before (getD (order n h) p 0) (order n h) ≡ take p (order n h)
+before-at n h p l k =
+    let w = getD (order n h) p 0 in
+    let fits : p < length (order n h) = omega (arith, order-length n h l) in
+    let here = Lists.count-at (order n h) p fits in
+    let inside : w < n =
+    Lists.split (ltb w n)
+    (ltb-true w n)
+    (λ f. absurd (omega (arith, order-outside n h w l (ltb-false w n f)))) in
+    Lists.before-at (order n h) p fits (order-once n h w l inside)
 
 -- how many stand before a station, which is its position in the order
 pub before-position : (n : ℕ) (h : Head) (w : ℕ) → w < n

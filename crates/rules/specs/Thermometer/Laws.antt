@@ -74,6 +74,11 @@ pub add-is-code : (m a b : ℕ) → isCode m (add m a b) ≡ true
 unfolding add
 add-is-code m a b = is-code m (min m (ones a + ones b)) (omega arith)
 
+-- a code that is added to nothing stays
+pub add-none : (m a : ℕ) → isCode m a ≡ true → add m 0 a ≡ a
+unfolding add
+add-none m a t = rw zero-ones (ap code (omega (arith, code-few m a t)) ∙ sym (code-own m a t))
+
 -- a request, which is 0 or 1, has as many ones
 pub ones-bit : (r : ℕ) → r ≤ 1 → ones r ≡ r
 unfolding ones
@@ -87,6 +92,13 @@ unfolding code
 code-bit m zero l u = let few : min m 0 ≡ 0 = omega arith in rw few
 code-bit m (suc zero) l u = let few : min m 1 ≡ 1 = omega arith in rw few
 code-bit m (suc (suc r)) l u = absurd (omega arith)
+
+-- the adder takes a request for its code, whatever m is
+pub add-input : (m a r : ℕ) → r ≤ 1 → add m a (code (min m (bit (eqb r 1)))) ≡ add m a r
+unfolding add
+add-input m a zero u = rw (ones-code (min m 0), zero-ones) (ap code (omega arith))
+add-input m a (suc zero) u = rw (ones-code (min m 1), ones-bit 1 (omega arith)) (ap code (omega arith))
+add-input m a (suc (suc r)) u = absurd (omega arith)
 
 -- codes are in the order of their counts
 pub code-below : (a b : ℕ) → ltb (code a) (code b) ≡ ltb a b

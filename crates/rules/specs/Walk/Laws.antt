@@ -16,7 +16,7 @@ use Rattle.rules.specs.Lists.{bit, range, filter, count, before}
 use Rattle.rules.specs.Lists.Laws as Lists
 use Rattle.rules.specs.RoundRobin.{start, order, granted, grants, next}
 use Rattle.rules.specs.RoundRobin.Laws as RoundRobin
-use Rattle.rules.specs.Walk.{reached, Ran}
+use Rattle.rules.specs.Walk.{reached, RanBy, Ran}
 
 -- a run from a station on, of a walk that granted c₀ before it, the last of them z₀
 module _ (m : ℕ) (asks : ℕ → Bool) (from c₀ z₀ : ℕ) (old : List ℕ) where
@@ -98,6 +98,27 @@ module _ (m : ℕ) (asks : ℕ → Bool) (from c₀ z₀ : ℕ) (old : List ℕ)
           none = r .none;
           some = λ a. let l = r .some a in (l .0, omega (arith, l .1), l .2, l .3);
         }
+
+-- a run by other counts that are the same up to m
+pub recounted : {m from to c₀ z₀ c z : ℕ} {asks : ℕ → Bool} {a b : ℕ → ℕ} {old new : List ℕ} → from ≤ to
+    → ((w : ℕ) → from ≤ w → w ≤ to → min m (a w) ≡ min m (b w))
+    → RanBy m asks a from to c₀ z₀ old c z new → RanBy m asks b from to c₀ z₀ old c z new
+recounted {m} {from} {to} {asks = asks} {a = a} {b = b} l same r =
+    record {
+      counted = r .counted ∙ same to l (omega arith);
+      here =
+          λ w k u.
+          let alike : ltb (a w) m ≡ ltb (b w) m =
+          Lists.both-ways _ _
+          (λ t. lt-ltb (b w) m (omega (arith, ltb-true (a w) m t, same w k (omega arith))))
+          (λ t. lt-ltb (a w) m (omega (arith, ltb-true (b w) m t, same w k (omega arith)))) in
+          r .here w k u ∙ rw alike;
+      below = r .below;
+      above = r .above;
+      long = r .long;
+      none = r .none;
+      some = λ more. let f = r .some more in (f .0, f .1, f .2, omega (arith, f .3, r .counted, same _ (f .0) (omega (arith, f .1))));
+    }
 
 -- a byte that was 0
 cond-bit : (b : Bool) (x : ℕ) → x ≡ 0 → cond b 1 x ≡ bit b

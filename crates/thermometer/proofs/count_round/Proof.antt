@@ -10,6 +10,7 @@ use Rattle.rules.specs.Walk.Laws as Walk
 use Rattle.arbiter.specs.Decisions.{counted}
 use Rattle.arbiter.specs.Decisions.Laws.{walked, quiet-decides, quiet-grants}
 use Rattle.arbiter.specs.Places.{highest}
+use Rattle.thermometer.specs.Runs.Laws.{hands-code, to-counts}
 use Rattle.thermometer.proofs.count_round.Statement.{statement}
 use Rattle.thermometer.proofs.count_round.Tie as tie
 
@@ -53,7 +54,7 @@ count-run-requires-2 c κs =
         omega (arith, e),
         (
           omega (arith, e, r .count-run .kept .1 .1 .0, ap length (b .pre .1 .1 .1 .1 .1), size),
-          (b .pre .1 .0, (r .count-run .ensures .coded, b .pre .1 .1 .1 .0)),
+          (b .pre .1 .0, (hands-code _ _ _ _ _ _ _ _ (zero-is-code (b .args .picks)) (omega (arith, e)) (r .count-run .ensures), b .pre .1 .1 .1 .0)),
         ),
       ),
     )
@@ -75,8 +76,12 @@ returns-2 c =
     let b = one .before .before .before .before .before .before in
     let a = b .args in
     let e = one .before .before .first-station .ensures in
-    let first = rw zero-ones at (Walk.told e refl (b .pre .1 .1 .1 .1 .1) (one .count-run .ensures .ran)) in
-    let w = Walk.round _ _ _ _ (b .pre .0) _ _ _ _ _ _ first (Walk.told refl e refl (two .count-run2 .ensures .ran)) in
+    let none = zero-is-code (a .picks) in
+    let half = to-counts _ _ _ _ _ _ _ _ none (omega (arith, e)) (one .count-run .ensures) in
+    let coded = hands-code _ _ _ _ _ _ _ _ none (omega (arith, e)) (one .count-run .ensures) in
+    let rest = to-counts _ _ _ _ _ _ _ _ coded (omega arith) (two .count-run2 .ensures) in
+    let first = rw zero-ones at (Walk.told e refl (b .pre .1 .1 .1 .1 .1) half) in
+    let w = Walk.round _ _ _ _ (b .pre .0) _ _ _ _ _ _ first (Walk.told refl e refl rest) in
     (c .decide .ensures ∙ ap (λ (x : ℕ). counted (a .width) (a .head) x (two .count-run2 .result .last)) (k .count .ensures) ∙ walked _ _ _ _ w, w .bytes)
 
 pub count-round-spec : {M : Type 1} → statement M
