@@ -53,9 +53,8 @@ unfolding running
 running-count m asks a ws zero l u = running-first m (code a) (map (input m asks) ws) ∙ ap code (omega arith)
 running-count m asks a [] (suc k) l u = absurd (omega arith)
 running-count m asks a (w ∷ ws) (suc k) l u =
-    let b = min m (bit (asks w)) in
-    ap (λ (c : ℕ). getD (running m c (map (input m asks) ws)) k 0) (add-codes m a b)
-    ∙ running-count m asks (min m (a + b)) ws k (omega arith) (omega arith)
+    ap (λ (c : ℕ). getD (running m c (map (input m asks) ws)) k 0) (add-codes m a _)
+    ∙ running-count m asks (min m (a + _)) ws k (omega arith) (omega arith)
     ∙ ap code (omega arith)
 
 -- and along a run of them, before station w
@@ -74,7 +73,8 @@ running-run m asks c from to w t l u =
 pub inputs-runs : (n m : ℕ) (h : Head) (asks : ℕ → Bool)
     → inputs n m h asks ≡ map (input m asks) (range (start h) (n - start h)) ++ map (input m asks) (range 0 (start h))
 unfolding inputs
-inputs-runs n m h asks = rw (RoundRobin.order-runs n h) (map-append (input m asks) (range (start h) (n - start h)) (range 0 (start h)))
+inputs-runs n m h asks =
+    ap (map (input m asks)) (RoundRobin.order-runs n h) ∙ map-append (input m asks) (range (start h) (n - start h)) (range 0 (start h))
 
 -- and are codes
 pub inputs-codes : (n m : ℕ) (h : Head) (asks : ℕ → Bool) (p : ℕ) → p < length (inputs n m h asks) → isCode m (getD (inputs n m h asks) p 0) ≡ true

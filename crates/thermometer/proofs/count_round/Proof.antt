@@ -48,13 +48,15 @@ count-run-requires-2 c κs =
     let r = c .before .before .before in
     let b = r .before .before .before .before .before .before in
     let e = r .before .before .first-station .ensures in
-    let size = length-replicate {A = ℕ} (b .args .width) 0 in (
+    let size = length-replicate {A = ℕ} (b .args .width) 0 in
+    let none = zero-is-code (b .args .picks) in
+    let half = hands-code _ _ _ _ _ _ _ _ none (omega (arith, e)) (r .count-run .ensures) in (
       omega arith,
       (
         omega (arith, e),
         (
           omega (arith, e, r .count-run .kept .1 .1 .0, ap length (b .pre .1 .1 .1 .1 .1), size),
-          (b .pre .1 .0, (hands-code _ _ _ _ _ _ _ _ (zero-is-code (b .args .picks)) (omega (arith, e)) (r .count-run .ensures), b .pre .1 .1 .1 .0)),
+          (b .pre .1 .0, (search (needs, none, half), b .pre .1 .1 .1 .0)),
         ),
       ),
     )

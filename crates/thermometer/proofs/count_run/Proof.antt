@@ -77,12 +77,12 @@ loop-again c =
     ∙ sym (code-next m (a .requests .now) (a .from) (a .to) (a .walk .code) (l .i) (l .inv .0) (omega arith) wire) in
     ⊎-elim
     (λ w.
-    rw (w .1, w .2, w .3, sum) (
+    rw (w .1, w .2, w .3) (
       omega arith,
       omega arith,
       simp length-set (omega arith),
-      next,
-      Steps.granted _ _ _ coded wire _ _ _ _ _ (l .i) (l .inv .0) _ _ (l .inv .4) refl (rw sum at (w .0 .taken)) (omega arith),
+      sum ∙ next,
+      rw (← sum) at (Steps.granted _ _ _ coded wire _ _ _ _ _ (l .i) (l .inv .0) _ _ (l .inv .4) refl (rw sum at (w .0 .taken)) (omega arith)),
     ))
     (λ w.
     let stays = rw sum at (w .0 .left) in

@@ -41,14 +41,15 @@ module _ (m : ℕ) (requests : List ℕ) (from to c : ℕ) where
   pub code-next : (i : ℕ) → from ≤ i → i < to → getD requests i 0 ≤ 1
       → codeAt m requests from to c (i + 1) ≡ add m (codeAt m requests from to c i) (getD requests i 0)
   code-next i l u wire =
-      let next : i + 1 - from ≡ suc (i - from) = omega arith in
-      let here : from + (i - from) ≡ i = omega arith in
-      rw (
-        next,
-        running-next m c inputs (i - from) (omega (arith, many)),
-        Lists.getD-table (input m asks) from (to - from) (i - from) (omega arith),
-        here,
-      ) (add-input m (getD (running m c inputs) (i - from) 0) (getD requests i 0) wire)
+      let k = i - from in
+      let here : from + k ≡ i = omega arith in
+      let request : getD inputs k 0 ≡ input m asks i = Lists.getD-table (input m asks) from (to - from) k (omega arith) ∙ ap (input m asks) here in
+      let before = getD (running m c inputs) k 0 in
+      let next : i + 1 - from ≡ suc k = omega arith in
+      ap (λ (j : ℕ). getD (running m c inputs) j 0) next
+      ∙ running-next m c inputs k (omega (arith, many))
+      ∙ ap (add m before) request
+      ∙ add-input m before (getD requests i 0) wire
 
   module _ (coded : isCode m c ≡ true) (w : ℕ) (l : from ≤ w) (u : w ≤ to) where
     -- it stays a code
