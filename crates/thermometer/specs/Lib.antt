@@ -1,2 +1,3 @@
 pub mod Adder
 pub mod Runs
+pub mod Trace

@@ -11,8 +11,18 @@ use Rattle.arbiter.specs.Decisions.{counted}
 use Rattle.arbiter.specs.Decisions.Laws.{walked, quiet-decides, quiet-grants}
 use Rattle.arbiter.specs.Places.{highest}
 use Rattle.thermometer.specs.Runs.Laws.{hands-code, to-counts}
+use Rattle.thermometer.specs.Trace.{trace, end, computes, calls, leaves, either}
+use Rattle.thermometer.proofs.count_round.Code as code
 use Rattle.thermometer.proofs.count_round.Statement.{statement}
 use Rattle.thermometer.proofs.count_round.Tie as tie
+
+-- N3, read off the code: a count goes once round. Where somebody asks there are two runs, and no loop beside them
+two-runs : trace (code.function .body) end
+    ≡ computes
+    (either (calls "arbiter::idle" (leaves end)) end
+    (calls "arbiter::first_station"
+    (calls "thermometer::count_run" (calls "thermometer::count_run" (calls "thermometer::adder::count" (calls "arbiter::decide" (leaves end)))))))
+two-runs = refl
 
 idle-requires : tie.Need-idle-requires
 idle-requires c κs = search needs

@@ -16,8 +16,21 @@ use Rattle.arbiter.specs.Decisions.{requested}
 use Rattle.thermometer.specs.Runs.{codeAt}
 use Rattle.thermometer.specs.Runs.Laws.{code-first, code-next, code-coded, to-codes}
 use Rattle.thermometer.proofs.Steps as Steps
+use Rattle.thermometer.specs.Trace.{trace, end, computes, calls, leaves, either, repeats}
+use Rattle.thermometer.proofs.count_run.Code as code
 use Rattle.thermometer.proofs.count_run.Statement.{statement}
 use Rattle.thermometer.proofs.count_run.Tie as tie
+
+-- N3's "one adder step for each station", read off the code. There is one loop, and a turn of it is: its own test, a request's place,
+-- one adder step, one comparison, a grant's place or not, and the next station. Before the loop the code of the picks is made
+one-step : trace (code.function .body) end
+    ≡ calls "thermometer::adder::code"
+    (repeats
+    (computes
+    (either end (leaves end)
+    (computes (calls "thermometer::adder::step" (computes (either (computes end) end (computes end)))))))
+    (leaves end))
+one-step = refl
 
 abbrev Inv-loop : tie.InvT-loop
 Inv-loop picks requests grants₀ from to full code₀ last₀ i₀ grants code last i =

@@ -1,12 +1,14 @@
 -- `cycle` meets its contract: it asks its questions, and then a walk round gives the rule's answer and grants.
 -- Assumes nothing.
-use mathlib.Core.Path.{ap, _∙_}
+use mathlib.Core.Path.{_≡_, refl, ap, _∙_}
 use lib.ListN.{length}
 use borrow.Author.Needs.{needs}
 use Rattle.arbiter.specs.declared.Decision.{Decision}
 use Rattle.arbiter.specs.Answers.{decided}
 use Rattle.arbiter.specs.Answers.Laws.{written, unwritten}
 use Rattle.arbiter.specs.Questions.Laws.{Ready, ready, told}
+use Rattle.thermometer.specs.Trace.{trace, end, computes, calls, leaves, either}
+use Rattle.thermometer.proofs.Thermometer.cycle.Code as code
 use Rattle.thermometer.proofs.Thermometer.cycle.Statement.{statement}
 use Rattle.thermometer.proofs.Thermometer.cycle.Tie as tie
 
@@ -68,3 +70,12 @@ cycle-spec =
     served-requires
     same-length
     returns-2)
+
+-- N3, read off the code: a cycle counts once
+one-count : trace (code.function .body) end
+    ≡ calls "arbiter::question::state"
+    (calls "arbiter::question::cycle"
+    (computes
+    (either (calls "arbiter::State::refused" (leaves end)) end
+    (calls "arbiter::clear" (calls "thermometer::count_round" (calls "arbiter::State::served" (leaves end)))))))
+one-count = refl
