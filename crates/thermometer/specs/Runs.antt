@@ -16,10 +16,14 @@ pub mod Laws
 abbrev pub begun : Walk
 begun = record { code = 0; last = 0 }
 
+-- the requests of so many stations from one on, as codes
+abbrev pub asked : ℕ → List ℕ → ℕ → ℕ → List ℕ
+asked m requests from many = map (input m (requested requests)) (range from many)
+
 -- the running code (02, N3) of a run with m picks from one station up to another, to which the walk comes with code c: before
 -- station w of the run, and past its last station where w is `to`
 abbrev pub codeAt : ℕ → List ℕ → ℕ → ℕ → ℕ → ℕ → ℕ
-codeAt m requests from to c w = getD (running m c (map (input m (requested requests)) (range from (to - from)))) (w - from) 0
+codeAt m requests from to c w = getD (running m c (asked m requests from (to - from))) (w - from) 0
 
 -- such a run: the walk and the grant buffer before it, and those after it. It starts from the code that is handed to it, whatever was
 -- counted before; each of its stations is judged by the running code before it; and it hands on the one past its last station

@@ -5,7 +5,7 @@ use mathlib.Core.Path.{_≡_, refl, sym, ap, _∙_}
 use mathlib.Core.Bool.{Bool, true}
 use mathlib.Core.List.{List, [], _∷_, _++_, map, map-append}
 use native.Mathlib.Omega.{arith}
-use native.Mathlib.Nat.{zero-add}
+use native.Mathlib.Nat.{zero-add, suc-add}
 use native.Mathlib.Numerals.{add-one}
 use lib.Count.{ones}
 use lib.Dec.{eqb, ltb}
@@ -40,6 +40,20 @@ pub running-length : (m c : ℕ) (xs : List ℕ) → length (running m c xs) ≡
 unfolding running
 running-length m c [] = refl
 running-length m c (x ∷ xs) = ap suc (running-length m (add m c x) xs)
+
+-- up to an input it does not go by those after it
+pub running-prefix : (m c : ℕ) (xs ys : List ℕ) (k : ℕ) → k ≤ length xs → getD (running m c (xs ++ ys)) k 0 ≡ getD (running m c xs) k 0
+unfolding running
+running-prefix m c [] ys k l = let none : k ≡ 0 = omega arith in rw none (running-first m c ys)
+running-prefix m c (x ∷ xs) ys zero l = refl
+running-prefix m c (x ∷ xs) ys (suc k) l = running-prefix m (add m c x) xs ys k (omega arith)
+
+-- past an input it goes by the code there alone: that is what is carried on
+pub running-carried : (m c : ℕ) (xs ys : List ℕ) (k : ℕ)
+    → getD (running m c (xs ++ ys)) (length xs + k) 0 ≡ getD (running m (getD (running m c xs) (length xs) 0) ys) k 0
+unfolding running
+running-carried m c [] ys k = rw (zero-add k)
+running-carried m c (x ∷ xs) ys k = rw (suc-add (length xs) k) (running-carried m (add m c x) xs ys k)
 
 -- it stays a code for m
 pub running-is-code : (m c : ℕ) (xs : List ℕ) (k : ℕ) → isCode m c ≡ true → k ≤ length xs → isCode m (getD (running m c xs) k 0) ≡ true

@@ -3,24 +3,33 @@
 use Prim.Native.Nat.{ℕ, suc, _+_, _-_, _≤_, _<_, min}
 use mathlib.Core.Path.{_≡_, refl, sym, ap, _∙_}
 use mathlib.Core.Bool.{Bool, true}
-use mathlib.Core.List.{List, map}
+use mathlib.Core.List.{List, _++_, map, map-append, append-assoc}
 use native.Mathlib.Omega.{arith}
 use lib.Count.{ones}
 use lib.ListN.{length, getD}
 use Rattle.rules.specs.declared.Head.{Head}
-use Rattle.rules.specs.Lists.{range, count, before}
+use Rattle.rules.specs.Lists.{range}
 use Rattle.rules.specs.Lists.Laws as Lists
-use Rattle.rules.specs.RoundRobin.{start, order}
-use Rattle.rules.specs.RoundRobin.Laws as RoundRobin
-use Rattle.rules.specs.Thermometer.{code, isCode, add, saturated, input, running, runningCodes}
-use Rattle.rules.specs.Thermometer.Laws.{zero-ones, zero-is-code, ones-code, add-input}
-use Rattle.rules.specs.Thermometer.Running.{running-first, running-next, running-is-code, running-run, code-before}
+use Rattle.rules.specs.RoundRobin.{start}
+use Rattle.rules.specs.Thermometer.{isCode, add, input, running, runningCodes}
+use Rattle.rules.specs.Thermometer.Laws.{ones-code, add-input}
+use Rattle.rules.specs.Thermometer.Running.{running-first, running-next, running-prefix, running-carried, running-is-code, running-run, inputs-runs, codes-inputs}
 use Rattle.rules.specs.Walk as Walks
 use Rattle.rules.specs.Walk.{reached}
 use Rattle.rules.specs.Walk.Laws as Walk
 use Rattle.arbiter.specs.Decisions.{requested}
 use Rattle.thermometer.specs.declared.Walk.{Walk}
-use Rattle.thermometer.specs.Runs.{Ran, begun, codeAt}
+use Rattle.thermometer.specs.Runs.{Ran, begun, asked, codeAt}
+
+-- the requests of a run of stations
+module _ (m : ℕ) (requests : List ℕ) where
+  asked-length : (from k : ℕ) → length (asked m requests from k) ≡ k
+  asked-length = Lists.length-table (input m (requested requests))
+
+  asked-append : (from j k : ℕ) → asked m requests from (j + k) ≡ asked m requests from j ++ asked m requests (from + j) k
+  asked-append from j k =
+      ap (map (input m (requested requests))) (Lists.range-append from j k)
+      ∙ map-append (input m (requested requests)) (range from j) (range (from + j) k)
 
 -- the running code of a run that starts from c
 module _ (m : ℕ) (requests : List ℕ) (from to c : ℕ) where
@@ -28,10 +37,10 @@ module _ (m : ℕ) (requests : List ℕ) (from to c : ℕ) where
   asks = requested requests
 
   abbrev inputs : List ℕ
-  inputs = map (input m asks) (range from (to - from))
+  inputs = asked m requests from (to - from)
 
   many : length inputs ≡ to - from
-  many = Lists.length-table (input m asks) from (to - from)
+  many = asked-length m requests from (to - from)
 
   -- before its first station
   pub code-first : codeAt m requests from to c from ≡ c
@@ -83,42 +92,35 @@ module _ (m : ℕ) (requests : List ℕ) (from to : ℕ) (walk now : Walk) (old 
   to-codes r e = record { carried = e; ran = Walk.recounted l (λ w k u. sym (same w k u)) r }
 
 -- a walk from the first station, and a walk that goes on from 0: `half` is how far it has come at the last station, and `now` how
--- far before station w
-module _ (n m : ℕ) (h : Head) (station : start h ≤ n) (requests old mid new : List ℕ) (half now : Walk) (w : ℕ) where
+-- far before station w. What it carries is the cycle's running code at the position of w, and past the last where no station is left
+module _ (n m : ℕ) (h : Head) (requests old mid new : List ℕ) (half now : Walk) (w : ℕ) where
   abbrev f : ℕ
   f = start h
 
-  abbrev asking : ℕ → Bool
-  asking = requested requests
+  abbrev part : ℕ → ℕ → List ℕ
+  part = asked m requests
 
-  -- the cycle's running code before station w
-  abbrev serial : ℕ
-  serial = getD (runningCodes n m h asking) (length (before w (order n h))) 0
+  cycle-codes : runningCodes n m h (requested requests) ≡ running m 0 (part f (n - f) ++ part 0 f)
+  cycle-codes = codes-inputs n m h (requested requests) ∙ ap (running m 0) (inputs-runs n m h (requested requests))
 
-  -- before a station at or past the first
-  pub carried-high : f ≤ w → w < n → Ran m requests f w begun old now new → now .code ≡ serial
-  unfolding saturated
+  -- from the first on
+  pub carried-high : f ≤ w → w ≤ n → Ran m requests f w begun old now new → now .code ≡ getD (runningCodes n m h (requested requests)) (w - f) 0
   carried-high l u r =
+      let parts : n - f ≡ (w - f) + (n - w) = omega arith in
+      let all : part f (n - f) ++ part 0 f ≡ part f (w - f) ++ (part (f + (w - f)) (n - w) ++ part 0 f) =
+      rw (parts, asked-append m requests f (w - f) (n - w)) (append-assoc (part f (w - f)) (part (f + (w - f)) (n - w)) (part 0 f)) in
       r .carried
-      ∙ running-run m asking 0 f w w (zero-is-code m) l (omega arith)
-      ∙ sym (code-before n m h asking station w u ∙ ap code (omega (arith, zero-ones, ap (count asking) (RoundRobin.before-high n h w l u))))
+      ∙ sym (rw (cycle-codes, all) (running-prefix m 0 (part f (w - f)) _ (w - f) (omega (arith, asked-length m requests f (w - f)))))
 
-  -- and before a station below it
-  pub carried-low : w < f → Ran m requests f n begun old half mid → Ran m requests 0 w half mid now new → now .code ≡ serial
-  unfolding saturated
+  -- and from 0 on
+  pub carried-low : w ≤ f → Ran m requests f n begun old half mid → Ran m requests 0 w half mid now new
+      → now .code ≡ getD (runningCodes n m h (requested requests)) (n - f + w) 0
   carried-low l one two =
-      let all : w - 0 ≡ w = omega arith in
-      let few = hands-code m requests f n begun half old mid (zero-is-code m) station one in
-      two .carried
-      ∙ running-run m asking (half .code) 0 w w few (omega arith) (omega arith)
-      ∙ sym (
-      code-before n m h asking station w (omega arith)
-      ∙ ap code (omega (
-        arith,
-        ap ones (one .carried) ∙ code-counts m requests f n 0 (zero-is-code m) n station (omega arith),
-        zero-ones,
-        ap (λ (k : ℕ). count asking (range 0 k)) all,
-        ap (count asking) (RoundRobin.before-low n h w l),
-        Lists.count-append asking (range f (n - f)) (range 0 w),
-      ))
-      )
+      let whole : w - 0 ≡ w = omega arith in
+      let parts : f ≡ w + (f - w) = omega arith in
+      let upto : getD (running m (half .code) (part 0 f)) w 0 ≡ getD (running m (half .code) (part 0 w)) w 0 =
+      ap (λ (xs : List ℕ). getD (running m (half .code) xs) w 0) (ap (part 0) parts ∙ asked-append m requests 0 w (f - w))
+      ∙ running-prefix m (half .code) (part 0 w) _ w (omega (arith, asked-length m requests 0 w)) in
+      let on = rw (asked-length m requests f (n - f)) at (running-carried m 0 (part f (n - f)) (part 0 f) w) in
+      (rw whole at (two .carried))
+      ∙ sym (rw cycle-codes (on ∙ ap (λ (c : ℕ). getD (running m c (part 0 f)) w 0) (sym (one .carried)) ∙ upto))
