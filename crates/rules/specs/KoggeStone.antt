@@ -28,7 +28,8 @@ pub levels : ℕ → List ℕ → List ℕ → List ℕ
 levels m [] codes = codes
 levels m (d ∷ ds) codes = levels m ds (joined m d codes)
 
--- what comes out of the requests as codes, N1's "over turn order": for each position the code of how many ask up to it, its own station included
+-- what comes out of the requests as codes, N1's "over turn order": for each position the code of how many ask up to it, its own
+-- station included
 pub network : ℕ → ℕ → Head → (ℕ → Bool) → List ℕ
 network n m h asks = levels m (distances n) (inputs n m h asks)
 

@@ -1,7 +1,7 @@
 -- The code that a walk carries is the running code of the cycle: at each station 01's saturated count of those that ask before it.
 -- Assumes nothing.
 use Prim.Native.Nat.{ℕ, suc, _+_, _-_, _≤_, _<_, min}
-use mathlib.Core.Path.{_≡_, refl, sym, ap, _∙_}
+use mathlib.Core.Path.{_≡_, sym, ap, _∙_}
 use mathlib.Core.Bool.{Bool, true}
 use mathlib.Core.List.{List, _++_, map, map-append, append-assoc}
 use native.Mathlib.Omega.{arith}
