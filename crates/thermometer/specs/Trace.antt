@@ -5,6 +5,7 @@ use mathlib.Core.Bool.{Bool, true, false, _&&_}
 use mathlib.Core.Bool as Bool
 use mir.Syntax.{Name, Rv, rvOpd, op2, op1, addrOf, aggregate, repeat}
 use mir.Syntax.{Body, skip, seq, assign, block, loop, cond, switch, exit, return, call, Arms, arm, default, noDefault}
+mod Known
 
 -- each but `end` has what comes after it last
 pub data Trace : Type 0 where

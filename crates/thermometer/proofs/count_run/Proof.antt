@@ -15,8 +15,8 @@ use Rattle.rules.specs.Walk.Laws as Walk
 use Rattle.arbiter.specs.Decisions.{requested}
 use Rattle.thermometer.specs.Runs.{codeAt}
 use Rattle.thermometer.specs.Runs.Laws.{code-first, code-next, code-coded, to-codes}
-use Rattle.thermometer.proofs.Steps as Steps
 use Rattle.thermometer.specs.Trace.{trace, end, computes, calls, leaves, either, repeats}
+use Rattle.thermometer.proofs.Steps as Steps
 use Rattle.thermometer.proofs.count_run.Code as code
 use Rattle.thermometer.proofs.count_run.Statement.{statement}
 use Rattle.thermometer.proofs.count_run.Tie as tie
