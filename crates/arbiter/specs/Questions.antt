@@ -35,11 +35,11 @@ infixl 20 _then_
 unfoldable pub _then_ : Verdict → Verdict → Verdict
 a then b = cond (eqb (a .number) 0) b a
 
--- the most stations: 01's 256
+-- the most stations: 02, N4, "1 to 1,024"
 abbrev pub maxWidth : ℕ
-maxWidth = 256
+maxWidth = 1024
 
--- 1: "Is N in 1 to 256?"
+-- 1: "Is N in 1 to" the most? "1 reads 1,024" (02, N4)
 abbrev pub width : ℕ → Verdict
 width n = refuseUnless (leb 1 n && leb n maxWidth) 1 0
 

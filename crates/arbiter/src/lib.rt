@@ -15,7 +15,7 @@ ghost use Rattle.arbiter.specs.Cycle as Cycle;
 ghost use Rattle.arbiter.specs.Decisions as Decisions;
 
 // The most stations.
-pub const MAX_WIDTH: usize = 256;
+pub const MAX_WIDTH: usize = 1024;
 
 // The most picks in one cycle.
 pub const MAX_PICKS: usize = 8;

@@ -2,10 +2,10 @@
 -- Assumes nothing.
 use Prim.Native.Nat.{ℕ, _/_, _^_}
 use mathlib.Core.Path.{refl}
-use mathlib.Core.Bool.{Bool, true, false, _&&_, _||_}
+use mathlib.Core.Bool.{Bool, true, false, cond, _&&_, _||_}
 use mathlib.Core.List.{List, [], _∷_, map}
 use lib.Dec.{eqb, ltb, leb}
-use lib.ListN.{length, getD, drop}
+use lib.ListN.{length, drop}
 use Rattle.rules.specs.declared.Head.{Head}
 use Rattle.rules.specs.declared.Head.the-variants.{None, At}
 use Rattle.rules.specs.Lists.{range, member}
@@ -105,9 +105,24 @@ image s bytes =
     (both (both (state (s .width) (s .picks) (s .head)) (size 5 (s .width) (length bytes))) (bits 0 bytes))
     (ten (drop 1 (Places.ones 0 bytes)))
 
+either : (b : Bool) {v w : Verdict} → Sparse v → Sparse w → Sparse (cond b v w)
+either true p q = p
+either false p q = q
+
+stray : (station mark : ℕ) → Sparse (refuseUnless (eqb mark 1 || eqb station 0) 4 0)
+stray station mark = unless (eqb mark 1 || eqb station 0) 4
+
+short-snapshot : (bytes : List ℕ) → Sparse (Snapshot.shortQuestions bytes)
+short-snapshot bytes =
+    let f = Snapshot.shortFields bytes in
+    both (bits 3 bytes) (both (both (picks (f .width) (f .picks)) (head (f .width) (Snapshot.marked (f .station) (f .mark)))) (stray (f .station) (f .mark)))
+
+long-snapshot : (bytes : List ℕ) → Sparse (Snapshot.longQuestions bytes)
+long-snapshot bytes =
+    let f = Snapshot.longFields bytes in
+    both (bits 5 bytes) (both (state (f .width) (f .picks) (Snapshot.marked (f .station) (f .mark))) (stray (f .station) (f .mark)))
+
 pub snapshot : (bytes : List ℕ) → Sparse (Snapshot.questions bytes)
 snapshot bytes =
-    let held = Snapshot.held bytes in
-    both
-    (both (both (both (size 5 Snapshot.size (length bytes)) (bits 3 bytes)) (picks (held .width) (held .picks))) (head (held .width) (held .head)))
-    (unless (eqb (getD bytes 3 0) 1 || eqb (getD bytes 2 0) 0) 4)
+    both (unless (eqb (length bytes) Snapshot.shortSize || eqb (length bytes) Snapshot.size) 5)
+    (either (eqb (length bytes) Snapshot.shortSize) (short-snapshot bytes) (long-snapshot bytes))

@@ -31,7 +31,7 @@ ghost use Rattle.packed_scan.specs.Lines.{Packed};
 pub struct PackedScan(pub State);
 
 impl PackedScan {
-    // Opens with no head. Asks 1, 3 and 4: a width of 257 is refused by 1, two picks by 3.
+    // Opens with no head. Asks 1, 3 and 4: a width of 1,025 is refused by 1, two picks by 3.
     pub fn open(width: usize, picks: usize) -> Answer
         ensures { λ r. ⌜ r ≡ Calls.opening width picks Head.None ⌝ }
     {

@@ -30,7 +30,7 @@ struct Walk {
 }
 
 impl Scan {
-    // Opens with no head. Asks 1, 3 and 4: a width of 257 is refused by 1, nine picks by 3.
+    // Opens with no head. Asks 1, 3 and 4: a width of 1,025 is refused by 1, nine picks by 3.
     pub fn open(width: usize, picks: usize) -> Answer
         ensures { λ r. ⌜ r ≡ Cycle.opening width picks Head.None ⌝ }
     {

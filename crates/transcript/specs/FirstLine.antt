@@ -35,10 +35,14 @@ abbrev pub value : ℕ → List ℕ → ℕ
 value v [] = v
 value v (c ∷ cs) = value (10 * v + (c - digit 0)) cs
 
--- "numbers have one to three digits and no leading zero except 0 itself"
+-- the most digits of a number: "The program takes four-digit numbers" (02, N4)
+abbrev pub maxDigits : ℕ
+maxDigits = 4
+
+-- "numbers have one to" so many "digits and no leading zero except 0 itself"
 unfoldable pub wellFormed : List ℕ → Bool
 wellFormed cs =
-    leb 1 (length cs) && (leb (length cs) 3 && ((leb (length cs) 1 || ltb (digit 0) (getD cs 0 0)) && allDigits cs))
+    leb 1 (length cs) && (leb (length cs) maxDigits && ((leb (length cs) 1 || ltb (digit 0) (getD cs 0 0)) && allDigits cs))
 
 unfoldable pub number : List ℕ → Number
 number cs = cond (wellFormed cs) (Value (value 0 cs)) Malformed

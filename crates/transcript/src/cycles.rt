@@ -130,7 +130,7 @@ fn engine_cycle(engine: Engine, s: State, requests: &[u8], grants: &mut [u8]) ->
     ensures { λ r. ⌜ r ≡ (Engines.cycle engine s (now (requests .entry)) (now (grants .entry)) (replicate (2 * s .width) 0)) .answer ⌝ }
     ensures { λ _. ⌜ now (grants .exit) ≡ (Engines.cycle engine s (now (requests .entry)) (now (grants .entry)) (replicate (2 * s .width) 0)) .grants ⌝ }
 {
-    let mut nodes = [0; 512];
+    let mut nodes = [0; 2048];
     let end = 2 * s.width;
     Dispatch(s).cycle(engine, requests, grants, &mut nodes[..end])
 }

@@ -7,6 +7,9 @@ ghost use Prim.Native.Nat.{_≤_};
 ghost use lib.ListN.{length};
 ghost use Rattle.transcript.specs.FirstLine as Spec;
 
+// The most digits of a number.
+const MAX_DIGITS: usize = 4;
+
 // Which kind of arbiter runs: an engine of the round-robin rule, or the token bus.
 pub enum Kind {
     RoundRobin(Engine),
@@ -80,14 +83,14 @@ fn named(character: u8) -> Letter
     }
 }
 
-// A number of one to three digits, with no leading zero except 0 itself.
+// A number of one to `MAX_DIGITS` digits, with no leading zero except 0 itself.
 fn read_number(digits: &[u8]) -> Number
     ensures { λ r. ⌜ r ≡ Spec.number (now (digits .entry)) ⌝ }
 {
     if digits.len() == 0 {
         return Number::Malformed;
     }
-    if digits.len() > 3 {
+    if digits.len() > MAX_DIGITS {
         return Number::Malformed;
     }
     if digits.len() > 1 {
@@ -98,9 +101,9 @@ fn read_number(digits: &[u8]) -> Number
     value(digits)
 }
 
-// The value of at most three characters, if all are digits.
+// The value of at most `MAX_DIGITS` characters, if all are digits.
 fn value(digits: &[u8]) -> Number
-    requires { ⌜ length (now digits) ≤ 3 ⌝ }
+    requires { ⌜ length (now digits) ≤ Spec.maxDigits ⌝ }
     ensures { λ r. ⌜ r ≡ cond (Spec.allDigits (now (digits .entry))) (Number.Value (Spec.value 0 (now (digits .entry)))) Number.Malformed ⌝ }
 {
     let mut value: usize = 0;

@@ -23,8 +23,8 @@ const MAX_INPUT: usize = 65536;
 // to be longer.
 pub const READ_SIZE: usize = MAX_INPUT + 1;
 
-// As long as a text can be: the heading, and 21 bytes for each byte of the longest input.
-pub const LIMIT: usize = 1376274;
+// No text is longer: the heading, and 19 bytes for each byte of the longest input.
+pub const LIMIT: usize = 18 + 19 * MAX_INPUT;
 
 // Writes the whole text for the first `read` bytes of the input at the start of the output, and answers how long it is. The rest of
 // the output stays as it was. Asks 12, then 11, then what the opening asks; each further line then asks 5, 8 and, for the bus, 9.

@@ -12,6 +12,11 @@ use snapshot::Snapshot;
 use token_bus::TokenBus;
 ghost use Prim.Native.Nat.{_≤_};
 
+// The widest that is run, and its nodes.
+pub(crate) const WIDEST: usize = 1024;
+
+pub(crate) const NODES: usize = 2 * WIDEST;
+
 pub(crate) const SCAN: usize = 0;
 
 pub(crate) const TREE: usize = 1;
@@ -39,6 +44,8 @@ pub(crate) const READ_SNAPSHOT: usize = 5;
 pub(crate) const WRITE_SNAPSHOT: usize = 6;
 
 pub(crate) const ADD: usize = 7;
+
+pub(crate) const READ_SHORT_SNAPSHOT: usize = 8;
 
 // How many bytes of its buffers a call is given: of the one that it reads, of the one that it writes, and of the nodes.
 pub struct Lengths {
@@ -69,6 +76,7 @@ pub(crate) fn most_picks(e: usize, width: usize) -> usize
         TREE => match width {
             2 | 4 | 8 | 16 => 1,
             32 | 64 | 128 | 256 => 1,
+            512 | 1024 => 1,
             _ => 0,
         },
         BUS | PACKED => lesser(width, 1),
@@ -131,7 +139,7 @@ pub(crate) fn call(
     match call {
         READ_ONE_HOT => OneHot(s).read(&read[0..asked]),
         WRITE_ONE_HOT => OneHot(s).write(&mut write[0..granted]),
-        READ_SNAPSHOT => Snapshot::read(&read[0..asked]),
+        READ_SNAPSHOT | READ_SHORT_SNAPSHOT => Snapshot::read(&read[0..asked]),
         WRITE_SNAPSHOT => Snapshot(s).write(&mut write[0..granted]),
         _ => cycle(
             e,

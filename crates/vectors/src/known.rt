@@ -8,15 +8,15 @@ use crate::sums;
 use arbiter::State;
 use rules::Head;
 
-// Widths 0, 256 and 257, nine picks, and three of two stations; then the two widths that only the tree refuses, by 2.
-const WIDTHS: [usize; 7] = [0, 256, 257, 16, 2, 1, 6];
+// Widths 0, 1,025, 256 and 1,024, nine picks, and three of two stations; then the three widths that only the tree refuses, by 2.
+const WIDTHS: [usize; 9] = [0, 1025, 256, 1024, 16, 2, 257, 1, 6];
 
-const PICKS: [usize; 7] = [1, 1, 1, 9, 3, 1, 1];
+const PICKS: [usize; 9] = [1, 1, 1, 1, 9, 3, 1, 1, 1];
 
-const NUMBERS: [usize; 7] = [1, 0, 1, 3, 3, 0, 0];
+const NUMBERS: [usize; 9] = [1, 1, 0, 0, 3, 3, 0, 0, 0];
 
-// 7 openings, without a head and at head 0, 6 engines.
-const OPENINGS: usize = 7 * 2 * 6;
+// 9 openings, without a head and at head 0, 6 engines.
+const OPENINGS: usize = 9 * 2 * 6;
 
 // The openings, then a node buffer, then 4 sums.
 pub(crate) const CASES: usize = OPENINGS + 1 + 4;
@@ -32,24 +32,24 @@ pub(crate) fn case(i: usize) -> Outcome {
 }
 
 fn opening(i: usize) -> Outcome {
-    let h = small::head(i / 7 % 2);
-    let e = i / 14;
+    let h = small::head(i / 9 % 2);
+    let e = i / 18;
     if engine::takes(e, h) {
         let s = State {
-            width: WIDTHS[i % 7],
-            picks: PICKS[i % 7],
+            width: WIDTHS[i % 9],
+            picks: PICKS[i % 9],
             head: h,
         };
-        return Outcome::Ran(compare::opening(e, s, number(e, i % 7)));
+        return Outcome::Ran(compare::opening(e, s, number(e, i % 9)));
     }
     Outcome::Skipped
 }
 
 fn number(e: usize, row: usize) -> usize {
-    if (e == engine::TREE) & (4 < row) {
+    if (e == engine::TREE) & (5 < row) {
         return 2;
     }
-    NUMBERS[row % 7]
+    NUMBERS[row % 9]
 }
 
 // A cycle of the tree with 4 stations, one pick and a head: who asks, the node buffer, and the next head.

@@ -32,9 +32,9 @@ fn main() {
         small::CASES,
     );
     lines(
-        b"scan, runs on widths 1 to 256|tree, runs on widths 2 to 256|\
-        thermometer, runs on widths 1 to 256|Kogge-Stone, runs on widths 1 to 256|\
-        bus, runs on widths 1 to 256|packed scan, runs on widths 1 to 256|",
+        b"scan, runs on widths 1 to 1024|tree, runs on widths 2 to 1024|\
+        thermometer, runs on widths 1 to 1024|Kogge-Stone, runs on widths 1 to 1024|\
+        bus, runs on widths 1 to 1024|packed scan, runs on widths 1 to 1024|",
         Group::Run,
         runs::CASES,
     );
@@ -61,14 +61,20 @@ fn main() {
     lines(
         b"opening without a head, refusals|opening with a head, refusals|cycle, refusals|\
         reading an image, refusals|writing an image, refusals|\
-        reading a snapshot, refusals|writing a snapshot, refusals|adder, refusals|",
+        reading a snapshot, refusals|writing a snapshot, refusals|adder, refusals|\
+        reading a short snapshot, refusals|",
         Group::Refusal,
         refusals::CASES,
     );
     lines(
-        b"one-hot image, each way|snapshot, each way|",
+        b"one-hot image, each way|snapshot, each way|short snapshot, read|",
         Group::Conversion,
         conversions::CASES,
+    );
+    lines(
+        b"snapshots of four and six bytes, written down|",
+        Group::Snapshot,
+        conversions::KNOWN,
     );
     texts::first_lines();
     texts::first_line_bytes();

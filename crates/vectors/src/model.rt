@@ -2,14 +2,13 @@
 use crate::compare;
 use crate::engine;
 use crate::engine::Lengths;
+use crate::engine::NODES;
+use crate::engine::WIDEST;
 use crate::packed;
 use arbiter::Answer;
 use arbiter::State;
 use rules::Head;
 ghost use Prim.Native.Nat.{_≤_};
-
-// The widest that is run.
-const WIDEST: usize = 256;
 
 // What a cycle came to: whether it is as the model says, and the state it left.
 pub struct Cycle {
@@ -25,8 +24,8 @@ pub(crate) fn run(e: usize, s: State, requests: &[u8], acknowledge: u8) -> Cycle
         write: n,
         nodes: 2 * n,
     };
-    let mut grants = [7u8; 256];
-    let mut nodes = [7u8; 512];
+    let mut grants = [7u8; WIDEST];
+    let mut nodes = [7u8; NODES];
     let a = engine::call(
         engine::CYCLE,
         e,
@@ -110,7 +109,7 @@ pub(crate) fn same_nodes(s: State, requests: &[u8], nodes: &[u8]) -> bool {
 }
 
 fn node(h: Head, requests: &[u8], below: Below) -> u8 {
-    let to = below.from % 512 + below.size % 512;
+    let to = below.from % NODES + below.size % NODES;
     reference::node(
         compare::headed(h),
         compare::station(h),
@@ -122,7 +121,7 @@ fn node(h: Head, requests: &[u8], below: Below) -> u8 {
 
 // What the next node is over: the next stations, as many, and after the last half as many from the first on.
 fn next(width: usize, below: Below) -> Below {
-    let from = below.from % 512 + below.size % 512;
+    let from = below.from % NODES + below.size % NODES;
     if from < width {
         return Below {
             from,

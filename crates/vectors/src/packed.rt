@@ -1,6 +1,7 @@
 // The packed scan: known cycles, and the plain scan on the unpacked wires beside it. Wires are packed here by adding up.
 use crate::compare;
 use crate::engine;
+use crate::engine::WIDEST;
 use crate::model;
 use crate::report::Outcome;
 use crate::small;
@@ -23,6 +24,9 @@ const REQUESTS: [u8; 14] = [9, 0, 9, 0, 9, 4, 8, 0, 0, 0, 128, 128, 127, 1];
 const GRANTS: [u8; 14] = [1, 0, 8, 0, 0, 4, 8, 0, 0, 0, 0, 128, 0, 1];
 
 const NEXT: [usize; 7] = [1, 4, 0, 4, 11, 0, 0];
+
+// The bytes of the widest.
+const BYTES: usize = WIDEST / 8;
 
 // 4,096 sets of requests, 13 heads, 12 widths. The known cycles are the first 7 of another line.
 pub(crate) const CASES: usize = 4096 * 13 * 12;
@@ -96,14 +100,14 @@ fn known(i: usize) -> Outcome {
 
 // How many bytes hold the wires of so many stations.
 pub(crate) fn size(n: usize) -> usize
-    ensures { λ r. ⌜ r ≤ 32 ⌝ }
+    ensures { λ r. ⌜ r ≤ 128 ⌝ }
 {
-    (engine::lesser(n, 256) + 7) / 8
+    (engine::lesser(n, WIDEST) + 7) / 8
 }
 
 // A cycle by the packed scan, with the wires packed before and the grants unpacked afterwards.
 pub(crate) fn cycle(s: State, requests: &[u8], grants: &mut [u8]) -> Answer {
-    let mut granted = [0u8; 32];
+    let mut granted = [0u8; BYTES];
     let a = packed_cycle(s, requests, &mut granted);
     if a.number == 0 {
         unpack(&granted, grants);
@@ -113,14 +117,14 @@ pub(crate) fn cycle(s: State, requests: &[u8], grants: &mut [u8]) -> Answer {
 
 fn packed_cycle(s: State, requests: &[u8], granted: &mut [u8]) -> Answer {
     let size = size(requests.len());
-    let mut packed = [0u8; 32];
+    let mut packed = [0u8; BYTES];
     pack(requests, size, &mut packed);
     cycle_on(s, size, &packed, granted)
 }
 
 // A cycle on the first of these bytes.
-fn cycle_on(s: State, size: usize, packed: &[u8; 32], granted: &mut [u8]) -> Answer
-    requires { ⌜ size ≤ 32 ⌝ }
+fn cycle_on(s: State, size: usize, packed: &[u8; BYTES], granted: &mut [u8]) -> Answer
+    requires { ⌜ size ≤ 128 ⌝ }
 {
     let all = &packed[..];
     let end = engine::lesser(size, granted.len());
@@ -129,10 +133,10 @@ fn cycle_on(s: State, size: usize, packed: &[u8; 32], granted: &mut [u8]) -> Ans
 
 // Whether the plain scan on the same wires answers and grants the same.
 pub(crate) fn as_scan(s: State, requests: &[u8]) -> bool {
-    let n = engine::lesser(engine::lesser(s.width, 256), requests.len());
-    let mut granted = [7u8; 32];
+    let n = engine::lesser(engine::lesser(s.width, WIDEST), requests.len());
+    let mut granted = [7u8; BYTES];
     let a = packed_cycle(s, &requests[0..n], &mut granted);
-    let mut grants = [0u8; 256];
+    let mut grants = [0u8; WIDEST];
     let mut nodes = [0u8; 1];
     let b = Dispatch(s).cycle(
         engines::Engine::Scan,
@@ -146,22 +150,22 @@ pub(crate) fn as_scan(s: State, requests: &[u8]) -> bool {
 }
 
 // Whether the first grants are these, packed. All bytes are compared, those past the grant buffer too.
-fn alike(n: usize, grants: &[u8; 256], granted: &[u8; 32]) -> bool
-    requires { ⌜ n ≤ 256 ⌝ }
+fn alike(n: usize, grants: &[u8; WIDEST], granted: &[u8; BYTES]) -> bool
+    requires { ⌜ n ≤ 1024 ⌝ }
 {
     let all = &grants[..];
-    let mut want = [7u8; 32];
+    let mut want = [7u8; BYTES];
     pack(&all[0..n], size(n), &mut want);
     same(granted, &want)
 }
 
-fn same(a: &[u8; 32], b: &[u8; 32]) -> bool {
+fn same(a: &[u8; BYTES], b: &[u8; BYTES]) -> bool {
     compare::begins(a, b)
 }
 
 // Packs wires into the first of these bytes.
-fn pack(wires: &[u8], size: usize, packed: &mut [u8; 32])
-    requires { ⌜ size ≤ 32 ⌝ }
+fn pack(wires: &[u8], size: usize, packed: &mut [u8; BYTES])
+    requires { ⌜ size ≤ 128 ⌝ }
 {
     let mut k: usize = 0;
     while k < size {
@@ -172,7 +176,7 @@ fn pack(wires: &[u8], size: usize, packed: &mut [u8; 32])
 
 // Four wires as the low half of a byte.
 fn half(wires: &[u8], i: usize) -> u8
-    requires { ⌜ i ≤ 256 ⌝ }
+    requires { ⌜ i ≤ 1024 ⌝ }
     ensures { λ r. ⌜ r ≤ 15 ⌝ }
 {
     wire(wires, i) + 2 * wire(wires, i + 1) + 4 * wire(wires, i + 2) + 8 * wire(wires, i + 3)
@@ -192,10 +196,10 @@ fn wire(wires: &[u8], i: usize) -> u8
 }
 
 // Unpacks these bytes into wires.
-fn unpack(packed: &[u8; 32], wires: &mut [u8]) {
+fn unpack(packed: &[u8; BYTES], wires: &mut [u8]) {
     let mut i: usize = 0;
     while i < wires.len() {
-        wires[i] = bit(packed[i / 8 % 32], i % 8);
+        wires[i] = bit(packed[i / 8 % BYTES], i % 8);
         i += 1;
     }
 }

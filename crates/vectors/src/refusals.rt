@@ -42,6 +42,9 @@ const UNUSED: usize = 16384;
 
 const STATE: usize = WIDTH | PICKS | HEAD;
 
+// How long the longest buffers are.
+const ROOM: usize = engine::NODES;
+
 // The byte with which buffers are filled that a refused call must leave alone.
 const KEPT: u8 = 7;
 
@@ -74,7 +77,7 @@ impl Faults {
 
     // A length: by a fault one more, one less or 0.
     fn length(self, fault: usize, right: usize) -> usize
-        requires { ⌜ right ≤ 512 ⌝ }
+        requires { ⌜ right ≤ 2048 ⌝ }
     {
         self.value(fault, right, [right + 1, small::last(right), 0])
     }
@@ -105,7 +108,8 @@ fn asked(call: usize) -> usize {
         engine::OPEN_AT => STATE,
         engine::CYCLE => STATE | READ | WRITE | BITS,
         engine::READ_ONE_HOT => STATE | READ | BITS | SECOND_ONE,
-        engine::READ_SNAPSHOT => READ | BITS | PICKS | HEAD,
+        engine::READ_SNAPSHOT => READ | BITS | STATE,
+        engine::READ_SHORT_SNAPSHOT => READ | BITS | PICKS | HEAD,
         engine::ADD => PICKS | CODE,
         _ => STATE | WRITE,
     }
@@ -138,8 +142,9 @@ fn refuses(call: usize, e: usize, f: Faults, s: State) -> bool {
         engine::OPEN => open(e, f, s),
         engine::OPEN_AT => compare::opening(e, s, f.first()),
         engine::READ_SNAPSHOT => read_snapshot(f),
+        engine::READ_SHORT_SNAPSHOT => read_short(f),
         engine::ADD => add(f),
-        engine::WRITE_SNAPSHOT => on_buffers(call, e, f, s, 4),
+        engine::WRITE_SNAPSHOT => on_buffers(call, e, f, s, 6),
         _ => with_buffers(call, e, f, s),
     }
 }
@@ -156,8 +161,8 @@ fn with_buffers(call: usize, e: usize, f: Faults, s: State) -> bool {
 // A state of 4 stations with these faults, for the packed scan of 12, which take two bytes. The last picks are one more than the
 // engine takes.
 fn state(e: usize, f: Faults) -> State {
-    let tree_width = f.value(TREE_WIDTH, right_width(e), [1, 6, 255]);
-    let width = f.value(WIDTH, tree_width, [0, 257, 1000]);
+    let tree_width = f.value(TREE_WIDTH, right_width(e), [1, 6, 1023]);
+    let width = f.value(WIDTH, tree_width, [0, 1025, 5000]);
     let picks = f.value(PICKS, 1, [0, 9, engine::most_picks(e, 4) + 1]);
     State {
         width,
@@ -178,7 +183,7 @@ fn head(e: usize, f: Faults, width: usize) -> Head {
     if f.has(HEAD) & (f.variant == 2) & (e == engine::BUS) {
         return Head::None;
     }
-    Head::At(f.value(HEAD, 0, [width, 1000000, 1000]))
+    Head::At(f.value(HEAD, 0, [width, 1000000, 5000]))
 }
 
 // An opening without a head, which the bus refuses by 4 if by nothing before.
@@ -195,7 +200,7 @@ fn open(e: usize, f: Faults, s: State) -> bool {
 
 // A call that is given a state and a buffer of `n` bytes to read or to write: a cycle, or all but reading a snapshot.
 fn on_buffers(call: usize, e: usize, f: Faults, s: State, n: usize) -> bool
-    requires { ⌜ n ≤ 256 ⌝ }
+    requires { ⌜ n ≤ 1024 ⌝ }
 {
     let lengths = Lengths {
         read: f.length(READ, n),
@@ -203,8 +208,8 @@ fn on_buffers(call: usize, e: usize, f: Faults, s: State, n: usize) -> bool
         nodes: f.length(NODES, 2 * n),
     };
     let bytes = spoilt(f, n, (call == engine::CYCLE) as u8);
-    let mut written = [KEPT; 512];
-    let mut nodes = [KEPT; 512];
+    let mut written = [KEPT; ROOM];
+    let mut nodes = [KEPT; ROOM];
     let acknowledge = f.byte(ACKNOWLEDGE, 1, [2, 255, 3]);
     let a = engine::call(
         call,
@@ -221,34 +226,60 @@ fn on_buffers(call: usize, e: usize, f: Faults, s: State, n: usize) -> bool
 
 // A cycle of the packed scan on `n` bytes, the first of them 1. The fault is the first bit past the stations, the last, or all.
 fn on_packed(f: Faults, s: State, n: usize) -> bool
-    requires { ⌜ n ≤ 32 ⌝ }
+    requires { ⌜ n ≤ 128 ⌝ }
 {
-    let read = engine::lesser(f.length(READ, n), 33);
-    let write = engine::lesser(f.length(WRITE, n), 33);
+    let read = engine::lesser(f.length(READ, n), 129);
+    let write = engine::lesser(f.length(WRITE, n), 129);
     let unused = f.byte(UNUSED, 0, [16, 128, 240]);
-    let first = set([0u8; 512], 0, 1);
+    let first = set([0u8; ROOM], 0, 1);
     let requests = set(first, small::last(n), unused % 255 + 1);
-    let mut written = [KEPT; 512];
+    let mut written = [KEPT; ROOM];
     let a = PackedScan(s).cycle(&requests[0..read], &mut written[0..write]);
     compare::answer(a, f.first(), place(f, n), 0, s) & kept(&written)
 }
 
-// A snapshot with a head past the end twice, and then one that is marked as none. Reading it asks 5, 8, 3 and 4, in this order.
+// Six bytes. The width is too large by one, by all its bits, and by its high byte; the head is past the end by its low byte, by its
+// high byte, and then there is a high byte of a head that is marked as none.
 fn read_snapshot(f: Faults) -> bool {
+    let snapshot = [
+        f.byte(WIDTH, 3, [0, 255, 3]),
+        f.byte(WIDTH, 0, [4, 255, 5]),
+        f.byte(PICKS, 2, [0, 9, 5]),
+        f.byte(HEAD, 3, [4, 0, 0]),
+        f.byte(HEAD, 0, [0, 1, 1]),
+        f.byte(BITS, f.value(HEAD, 1, [1, 1, 0]), [2, 255, 3]),
+        0,
+    ];
+    unread(f, &snapshot, 6)
+}
+
+// Four bytes, with a head past the end twice, and then one that is marked as none.
+fn read_short(f: Faults) -> bool {
     let snapshot = [
         3,
         f.byte(PICKS, 2, [0, 9, 5]),
         f.byte(HEAD, 3, [4, 255, 1]),
         f.byte(BITS, f.value(HEAD, 1, [1, 1, 0]), [2, 255, 3]),
         0,
+        0,
+        0,
     ];
-    let length = engine::lesser(f.length(READ, 4), 5);
-    let a = Snapshot::read(&snapshot[0..length]);
+    unread(f, &snapshot, 4)
+}
+
+// Whether a snapshot of so many bytes is refused by the first fault. Reading it asks 5, 8 of the last byte, 1, 3 and 4, in this
+// order.
+fn unread(f: Faults, snapshot: &[u8; 7], size: usize) -> bool
+    requires { ⌜ size ≤ 6 ⌝ }
+{
+    let all = &snapshot[..];
+    let length = engine::lesser(f.length(READ, size), 7);
+    let a = Snapshot::read(&all[0..length]);
     if f.has(READ) {
         return compare::answer(a, 5, 0, 0, compare::nothing());
     }
     if f.has(BITS) {
-        return compare::answer(a, 8, 3, 0, compare::nothing());
+        return compare::answer(a, 8, small::last(size), 0, compare::nothing());
     }
     compare::answer(a, f.first(), 0, 0, compare::nothing())
 }
@@ -262,18 +293,18 @@ fn add(f: Faults) -> bool {
 }
 
 // Whether a buffer is as it was filled.
-fn kept(buffer: &[u8; 512]) -> bool {
-    compare::begins(buffer, &[KEPT; 512])
+fn kept(buffer: &[u8; ROOM]) -> bool {
+    compare::begins(buffer, &[KEPT; ROOM])
 }
 
 // How many bytes go with a width: as many, or 4 where it is too large or none.
 fn stations(width: usize) -> usize
-    ensures { λ r. ⌜ r ≤ 256 ⌝ }
+    ensures { λ r. ⌜ r ≤ 1024 ⌝ }
 {
     if width == 0 {
         return 4;
     }
-    if 256 < width {
+    if 1024 < width {
         return 4;
     }
     width
@@ -296,10 +327,10 @@ fn place(f: Faults, n: usize) -> usize {
 
 // Bytes with a 1 at the first place: by the faults a second 1 and a byte that is not a bit, in the third variant with another
 // after it.
-fn spoilt(f: Faults, n: usize, byte: u8) -> [u8; 512]
-    ensures { λ r. ⌜ 512 ≡ length r ⌝ }
+fn spoilt(f: Faults, n: usize, byte: u8) -> [u8; ROOM]
+    ensures { λ r. ⌜ 2048 ≡ length r ⌝ }
 {
-    let first = set([byte; 512], 0, 1);
+    let first = set([byte; ROOM], 0, 1);
     let after = set(
         first,
         f.value(SECOND_ONE, 0, [0, small::last(n), small::last(n)]),
@@ -313,10 +344,10 @@ fn spoilt(f: Faults, n: usize, byte: u8) -> [u8; 512]
     second
 }
 
-fn set(bytes: [u8; 512], place: usize, byte: u8) -> [u8; 512]
-    ensures { λ r. ⌜ 512 ≡ length r ⌝ }
+fn set(bytes: [u8; ROOM], place: usize, byte: u8) -> [u8; ROOM]
+    ensures { λ r. ⌜ 2048 ≡ length r ⌝ }
 {
-    if 511 < place {
+    if ROOM <= place {
         return bytes;
     }
     let mut bytes = bytes;

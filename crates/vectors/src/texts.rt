@@ -8,14 +8,14 @@ pub(crate) fn first_lines() {
     let unreadable = b"0 refused 11 0\n|\
         |\n|\n1100\n|S|S |S 4|S 4 |S 4 \n|S  4 1|S 4  1| S 4 1|S 4 1 |S 4 1\r\n1100\n|S4 1|S 4,1|S\t4 1|SS 4 1|S 4 1 1|\
         s 4 1|X 4 1|t 4 1|1 4 1|  4 1|\
-        S 04 1|S 4 01|S 00 1|S 4 00|S 1000 1|S 4 1000|S +4 1|S -4 1|S 4 -1|S x 1|S 4 x|S 4x 1|S 4 1x|S 4. 1|";
+        S 04 1|S 4 01|S 00 1|S 4 00|S 10000 1|S 4 10000|S 0004 1|S 4 0001|S +4 1|S -4 1|S 4 -1|S x 1|S 4 x|S 4x 1|S 4 1x|S 4. 1|";
     let refused =
-        b"S 0 1|0 refused 1 0\n|S 257 1|0 refused 1 0\n|S 999 9|0 refused 1 0\n|S 0 0\n1\n|0 refused 1 0\n|\
-        T 0 1|0 refused 1 0\n|T 257 2|0 refused 1 0\n|P 0 9|0 refused 1 0\n|P 300 1|0 refused 1 0\n|\
-        B 0 1|0 refused 1 0\n|B 257 2|0 refused 1 0\n|\
-        T 1 1|0 refused 2 0\n|T 3 1|0 refused 2 0\n|T 6 2|0 refused 2 0\n|T 255 1\n0\n|0 refused 2 0\n|\
+        b"S 0 1|0 refused 1 0\n|S 1025 1|0 refused 1 0\n|S 9999 9|0 refused 1 0\n|S 0 0\n1\n|0 refused 1 0\n|\
+        T 0 1|0 refused 1 0\n|T 1025 2|0 refused 1 0\n|P 0 9|0 refused 1 0\n|P 1300 1|0 refused 1 0\n|\
+        B 0 1|0 refused 1 0\n|B 1025 2|0 refused 1 0\n|\
+        T 1 1|0 refused 2 0\n|T 3 1|0 refused 2 0\n|T 6 2|0 refused 2 0\n|T 257 1|0 refused 2 0\n|T 1023 1\n0\n|0 refused 2 0\n|\
         S 4 0|0 refused 3 0\n|S 4 5|0 refused 3 0\n|S 4 9|0 refused 3 0\n|S 2 3|0 refused 3 0\n|\
-        S 4 100|0 refused 3 0\n|S 256 9|0 refused 3 0\n|P 4 0|0 refused 3 0\n|P 7 8|0 refused 3 0\n|\
+        S 4 100|0 refused 3 0\n|S 4 1000|0 refused 3 0\n|S 1024 9|0 refused 3 0\n|P 4 0|0 refused 3 0\n|P 7 8|0 refused 3 0\n|\
         P 16 9|0 refused 3 0\n|T 4 2|0 refused 3 0\n|T 2 0|0 refused 3 0\n|\
         B 4 2|0 refused 3 0\n|B 1 0|0 refused 3 0\n|B 4 2\n1100 1\n|0 refused 3 0\n|";
     line(
@@ -37,13 +37,15 @@ pub(crate) fn first_line_bytes() {
         S 0@ 1\n|||||||0 refused 11 0\n|\
         S 1@ 1\n|0123456789||||||0 refused 11 0\n|\
         S 10@ 1\n|0123456789||||||0 refused 11 0\n|\
-        S 25@ 1\n|0123456||789|0 refused 1 0\n|||0 refused 11 0\n|\
-        S 100@ 1\n|||||||0 refused 11 0\n|\
+        S 102@ 1\n|01234||56789|0 refused 1 0\n|||0 refused 11 0\n|\
+        S 100@ 1\n|0123456789||||||0 refused 11 0\n|\
+        S 1000@ 1\n|||||||0 refused 11 0\n|\
         S 9 @\n|12345678||09|0 refused 3 0\n|||0 refused 11 0\n|\
         S 9 0@\n|\n|0 refused 3 0\n|||||0 refused 11 0\n|\
         S 9 1@\n|\n|1 refused 5 0\n|0123456789|0 refused 3 0\n|||0 refused 11 0\n|\
         S 9 10@\n|\n0123456789|0 refused 3 0\n|||||0 refused 11 0\n|\
-        S 9 100@\n|\n|0 refused 3 0\n|||||0 refused 11 0\n|\
+        S 9 100@\n|\n0123456789|0 refused 3 0\n|||||0 refused 11 0\n|\
+        S 9 1000@\n|\n|0 refused 3 0\n|||||0 refused 11 0\n|\
         S 4 1@1000\n|\n|1 1000 1\n|||||0 refused 11 0\n|\
         S 4 1@|\n||0123456789|0 refused 3 0\n|||0 refused 11 0\n|";
     line(
@@ -57,7 +59,7 @@ pub(crate) fn first_line_bytes() {
 // lines that are refused, by their length or their characters, and lines that end otherwise. Then cycle lines of the bus: served,
 // of another length, without the space, with other characters.
 pub(crate) fn cycle_lines() {
-    let served = b"S 4 1||S 4 1\n||T 256 1\n||P 8 8||B 1 1\n||\
+    let served = b"S 4 1||S 4 1\n||T 1024 1\n||P 8 8||S 257 1\n||B 1024 1\n||B 1 1\n||\
         S 4 1\n1100\n1100\n0000\n|1 1000 1\n2 0100 2\n3 0000 2\n|\
         T 4 1\n0000\n1001\n1001\n|1 0000 3\n2 0001 0\n3 1000 1\n|\
         P 4 2\n1101\n0001\n0000\n1011\n10x1\n|1 1100 2\n2 0001 0\n3 0000 0\n4 1010 3\n5 refused 8 2\n|\
@@ -119,12 +121,12 @@ pub(crate) fn cycle_line_bytes() {
 }
 
 // Inputs of 65,536 bytes, which are served, and of more, each with no first line to read and then with one. Then runs that are kept
-// in files: those that are shown to readers, a wide run, one with many refusals, and one of two stations.
+// in files: those that are shown to readers, two of 1,024 stations, one with many refusals, and one of two stations.
 pub(crate) fn long_inputs() {
     let long = b"|0 refused 11 0\n||0 refused 12 0\n||0 refused 12 0\n||0 refused 12 0\n|\
         S 1 1\n|1 refused 5 0\n|S 1 1\n|0 refused 12 0\n|S 1 1\n|0 refused 12 0\n|S 1 1\n|0 refused 12 0\n|";
     let files = b"morning_peak.in|morning_peak.out|channels.in|channels.out|bus.in|bus.out|\
-        wide.in|wide.out|mixed.in|mixed.out|narrow.in|narrow.out|";
+        wide.in|wide.out|wide_tree.in|wide_tree.out|mixed.in|mixed.out|narrow.in|narrow.out|";
     line(b"program, 65536 and 65537 bytes", Kind::Long, long);
     line(b"program, examples in files", Kind::Files, files);
 }

@@ -27,11 +27,12 @@ pub enum Group {
     Running,
     Refusal,
     Conversion,
+    Snapshot,
     Packed,
 }
 
 // No group has more lines.
-const LINES: usize = 8;
+const LINES: usize = 9;
 
 // How far a walk has come, and what a group carries from case to case: a run its state and its generator's seed, a node table the
 // places that were met.
@@ -97,6 +98,7 @@ fn case(group: Group, which: usize, i: usize, p: Progress) -> Progress {
         Group::Running => running::case(which, i),
         Group::Refusal => refusals::case(which, i),
         Group::Conversion => conversions::case(which, i),
+        Group::Snapshot => conversions::known(i),
         Group::Packed => packed::case(which, i),
     };
     p.add(outcome, i)

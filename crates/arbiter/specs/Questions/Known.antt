@@ -13,12 +13,12 @@ use Rattle.arbiter.specs.Questions.{width, treeWidth, picks, pickCount, 
 abbrev numbers : List Verdict → List ℕ
 numbers vs = map (λ (v : Verdict). v .number) vs
 
--- "Widths 0 and 257 give 1, 256 is served"
-pub known-widths : numbers (width 0 ∷ width 257 ∷ width 256 ∷ width 1 ∷ []) ≡ 1 ∷ 1 ∷ 0 ∷ 0 ∷ []
+-- 01: "Widths 0 and 257 give 1, 256 is served"; 02, N4: "1,025 now gives 1 and 257 is served"
+pub known-widths : numbers (width 0 ∷ width 1025 ∷ width 1024 ∷ width 257 ∷ width 256 ∷ width 1 ∷ []) ≡ 1 ∷ 1 ∷ 0 ∷ 0 ∷ 0 ∷ 0 ∷ []
 known-widths = refl
 
 -- "Tree width 1 or 6 gives 2"
-pub known-tree-widths : numbers (treeWidth 1 ∷ treeWidth 6 ∷ treeWidth 0 ∷ treeWidth 2 ∷ treeWidth 64 ∷ []) ≡ 2 ∷ 2 ∷ 2 ∷ 0 ∷ 0 ∷ []
+pub known-tree-widths : numbers (treeWidth 1 ∷ treeWidth 6 ∷ treeWidth 0 ∷ treeWidth 2 ∷ treeWidth 64 ∷ treeWidth 1024 ∷ []) ≡ 2 ∷ 2 ∷ 2 ∷ 0 ∷ 0 ∷ 0 ∷ []
 known-tree-widths = refl
 
 -- "m 9, or m 3 with N 2, gives 3"

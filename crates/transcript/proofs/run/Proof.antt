@@ -11,7 +11,7 @@ use Rattle.text.specs.Output.{Put}
 use Rattle.text.specs.Output.Laws.{put-length, same-put, put-then, put-whole, put-start}
 use Rattle.transcript.specs.Lines as Lines
 use Rattle.transcript.specs.Text.{maxInput, readSize, text, Counts}
-use Rattle.transcript.specs.Text.Laws.{follows, text-refused, text-follows, text-fits}
+use Rattle.transcript.specs.Text.Laws.{follows, text-refused, text-follows, limit, text-fits}
 use Rattle.transcript.proofs.run.Statement.{statement}
 use Rattle.transcript.proofs.run.Tie as tie
 
@@ -21,7 +21,7 @@ module _ (array : List ℕ) (read : ℕ) (size : length array ≡ readSize) wher
   input = take read array
 
   -- its text, written at the start of an output that has room for any
-  written : {former buffer : List ℕ} {end : ℕ} → length former ≡ 1376274 → Put former 0 (text input) buffer end
+  written : {former buffer : List ℕ} {end : ℕ} → length former ≡ limit → Put former 0 (text input) buffer end
       → (end ≡ length (text input)) × ((buffer ≡ text input ++ drop (length (text input)) former) × (Counts end buffer × (length array ≡ readSize)))
   written {former} {buffer} {end} room p =
       let fits = text-fits input in

@@ -1,13 +1,13 @@
 -- How long the lines of a run are, and what a cycle line leaves of the state.
 -- Assumes nothing.
-use Prim.Native.Nat.{ℕ, _+_, _*_, _^_, _≤_, _<_}
+use Prim.Native.Nat.{ℕ, suc, _+_, _*_, _^_, _≤_, _<_}
 use mathlib.Core.Path.{_≡_, refl, ap, _∙_}
 use mathlib.Core.Bool.{Bool, true, false, _&&_}
 use mathlib.Core.List.{List, [], _∷_, _++_, map}
 use native.Mathlib.Omega.{arith}
 use lib.Dec.{eqb, ltb, leb}
 use lib.ListN.{length, take, getD, replicate, length-append, length-map, length-take, length-replicate}
-use borrow.Author.Tests.{eq-eqb, ne-eqb, eqb-true, eqb-false}
+use borrow.Author.Tests.{eq-eqb, ne-eqb, eqb-true, eqb-false, leb-true, leb-false}
 use Rattle.rules.specs.declared.Head.{Head}
 use Rattle.rules.specs.declared.Head.the-variants.{None, At}
 use Rattle.rules.specs.Lists.{range, member}
@@ -266,6 +266,12 @@ module _ (e : Kind) (s : State) (line : List ℕ) where
   pub cycle-width : (cycle e s line) .answer .state .width ≡ s .width
   cycle-width = cycle-printable .width
 
+  -- a place that is named is a character's
+  pub cycle-place : (cycle e s line) .answer .place ≤ length line
+  cycle-place =
+      Lists.split (wellFormed e (s .width) line) (λ t. omega (arith, cycle-printable .place, formed-long e (s .width) line t))
+      (λ f. omega (arith, ap (λ (o : Outcome). o .answer .place) (cycle-refused f)))
+
   -- a served line has a character for each station
   pub served-long : (cycle e s line) .answer .number ≡ 0 → s .width ≤ length line
   served-long z =
@@ -281,27 +287,31 @@ pub printed-granted : (k : ℕ) (o : Outcome) → o .answer .number ≡ 0
 unfolding printed
 printed-granted k o z = rw (eq-eqb (o .answer .number) 0 z)
 
--- a refusal's line: five digits at most for the line's number, two for the refusal's and three for the place
-pub refusal-short : (k number place : ℕ) → k < 100000 → number < 100 → place < 1000 → length (refusal k number place) ≤ 21
+-- a refusal's line: five digits at most for the line's number, two for the refusal's, and those of the place
+refusal-long : (k number place digits : ℕ) → k < 100000 → number < 100 → place < 10 ^ suc digits → length (refusal k number place) ≤ 19 + digits
 unfolding refusal
-refusal-short k number place a b c =
+refusal-long k number place digits a b c =
     let one = length-append (decimal k) (refusedWord ++ (decimal number ++ ((space ∷ []) ++ (decimal place ++ (lineFeed ∷ []))))) in
     let two = length-append (decimal number) ((space ∷ []) ++ (decimal place ++ (lineFeed ∷ []))) in
     let three = length-append (decimal place) (lineFeed ∷ []) in
-    omega (arith, decimal-few 4 k a, decimal-few 1 number b, decimal-few 2 place c)
+    omega (arith, decimal-few 4 k a, decimal-few 1 number b, decimal-few digits place c)
 
-granted-short : (k : ℕ) (grants : List ℕ) (next : ℕ) → k < 100000 → next < 1000 → length (granted k grants next) ≤ length grants + 11
+-- one that names no place
+pub refusal-short : (k number place : ℕ) → k < 100000 → number < 100 → place ≤ 0 → length (refusal k number place) ≤ 19
+refusal-short k number place a b c = refusal-long k number place 0 a b (omega arith)
+
+granted-short : (k : ℕ) (grants : List ℕ) (next : ℕ) → k < 100000 → next < 10000 → length (granted k grants next) ≤ length grants + 12
 unfolding granted
 granted-short k grants next a b =
     let one = length-append (decimal k) ((space ∷ []) ++ (bits grants ++ ((space ∷ []) ++ (decimal next ++ (lineFeed ∷ []))))) in
     let two = length-append (bits grants) ((space ∷ []) ++ (decimal next ++ (lineFeed ∷ []))) in
     let three = length-append (decimal next) (lineFeed ∷ []) in
     let shown = length-map grants bit in
-    omega (arith, decimal-few 4 k a, decimal-few 2 next b)
+    omega (arith, decimal-few 4 k a, decimal-few 3 next b)
 
--- what a cycle line prints is at most 21 times as long as the line with its line feed
+-- what a cycle line prints is at most 19 times as long as the line with its line feed: a place above 0 is in a line with characters
 printed-short : (e : Kind) (s : State) (line : List ℕ) (k : ℕ) → s .width ≤ Questions.maxWidth → k < 100000
-    → length (printed k (cycle e s line)) ≤ 21 * (1 + length line)
+    → length (printed k (cycle e s line)) ≤ 19 * (1 + length line)
 printed-short e s line k most few =
     let o = cycle e s line in
     let p = cycle-printable e s line in
@@ -311,12 +321,16 @@ printed-short e s line k most few =
     let short = granted-short k (o .written) (start (o .answer .state .head)) few (omega (arith, p .next z)) in
     omega (arith, ap length (printed-granted k o z), short, p .grants, served-long e s line z))
     (λ f.
-    let short = refusal-short k (o .answer .number) (o .answer .place) few (p .number) (omega (arith, p .place)) in
-    omega (arith, ap length (printed-refused k o (eqb-false (o .answer .number) 0 f)), short))
+    let text = ap length (printed-refused k o (eqb-false (o .answer .number) 0 f)) in
+    Lists.split (leb (o .answer .place) 0)
+    (λ t. omega (arith, text, refusal-short k (o .answer .number) (o .answer .place) few (p .number) (leb-true (o .answer .place) 0 t)))
+    (λ a.
+    let long = refusal-long k (o .answer .number) (o .answer .place) 3 few (p .number) (omega (arith, p .place)) in
+    omega (arith, text, long, leb-false (o .answer .place) 0 a, cycle-place e s line)))
 
--- what lines print is at most 21 times as long as they are with their line feeds, where their numbers have five digits at most
+-- what lines print is at most 19 times as long as they are with their line feeds, where their numbers have five digits at most
 pub run-short : (e : Kind) (s : State) (k : ℕ) (ls : List (List ℕ)) → s .width ≤ Questions.maxWidth → k + length ls ≤ 100000
-    → length (run e s k ls) ≤ 21 * totalLength ls
+    → length (run e s k ls) ≤ 19 * totalLength ls
 unfolding run
 run-short e s k [] wide few = omega arith
 run-short e s k (line ∷ ls) wide few =

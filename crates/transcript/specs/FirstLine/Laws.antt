@@ -18,7 +18,7 @@ use Rattle.transcript.specs.declared.first_line.Letter.{Letter}
 use Rattle.transcript.specs.declared.first_line.FirstLine.{FirstLine}
 use Rattle.transcript.specs.declared.first_line.FirstLine.the-variants.{Unreadable}
 use Rattle.transcript.specs.Lines.{place}
-use Rattle.transcript.specs.FirstLine.{letter, isDigit, allDigits, value, wellFormed, number, opens, firstLine}
+use Rattle.transcript.specs.FirstLine.{letter, isDigit, allDigits, value, maxDigits, wellFormed, number, opens, firstLine}
 
 -- how far the reading of digits has come: those up to the i-th are digits, and their value is v
 pub record Read (cs : List ℕ) (i v : ℕ) : Type 0 where
@@ -32,15 +32,16 @@ module _ (cs : List ℕ) where
   none-read = record { passed = omega arith; digits = refl; values = refl; below = omega arith }
 
   module _ {i v : ℕ} (r : Read cs i v) where
-    small : (j : ℕ) → j < 3 → v < 10 ^ j → v < 100
+    small : (j : ℕ) → j < maxDigits → v < 10 ^ j → v < 1000
     small zero l m = omega arith
     small (suc zero) l m = omega arith
     small (suc (suc zero)) l m = omega arith
-    small (suc (suc (suc j))) l m = absurd (omega arith)
+    small (suc (suc (suc zero))) l m = omega arith
+    small (suc (suc (suc (suc j)))) l m = absurd (omega arith)
 
-    -- three digits make no large number
-    pub two-read : i < 3 → v < 100
-    two-read l = small i l (r .below)
+    -- before the last digit that there may be, no large number has been read
+    pub few-read : i < maxDigits → v < 1000
+    few-read l = small i l (r .below)
 
     pub all-read : length cs ≤ i → (allDigits cs ≡ true) × (value 0 cs ≡ v)
     all-read l =
@@ -69,7 +70,7 @@ below-digit c l = rw (lt-leb (digit 0) c l)
 pub above-digit : (c : ℕ) → digit 9 < c → isDigit c ≡ false
 above-digit c l = rw (le-leb (digit 0) c (omega arith), lt-leb c (digit 9) l)
 
--- what digits say if there are one to three of them and no leading zero
+-- what digits say if there are not too many of them and there is no leading zero
 abbrev pub digitsSay : List ℕ → Number
 digitsSay cs = cond (allDigits cs) (Value (value 0 cs)) Malformed
 
@@ -78,24 +79,24 @@ module _ (cs : List ℕ) where
   unfolding number wellFormed
   number-empty e = rw (lt-leb 1 (length cs) (omega arith))
 
-  pub number-long : 3 < length cs → number cs ≡ Malformed
+  pub number-long : maxDigits < length cs → number cs ≡ Malformed
   unfolding number wellFormed
-  number-long l = rw (le-leb 1 (length cs) (omega arith), lt-leb (length cs) 3 l)
+  number-long l = rw (le-leb 1 (length cs) (omega arith), lt-leb (length cs) maxDigits l)
 
-  module _ (some : 1 ≤ length cs) (few : length cs ≤ 3) where
+  module _ (some : 1 ≤ length cs) (few : length cs ≤ maxDigits) where
     pub number-zero : 1 < length cs → getD cs 0 0 ≤ digit 0 → number cs ≡ Malformed
     unfolding number wellFormed
     number-zero l z =
-        rw (le-leb 1 (length cs) some, le-leb (length cs) 3 few, lt-leb (length cs) 1 l, le-ltb (digit 0) (getD cs 0 0) z)
+        rw (le-leb 1 (length cs) some, le-leb (length cs) maxDigits few, lt-leb (length cs) 1 l, le-ltb (digit 0) (getD cs 0 0) z)
 
     pub number-one : length cs ≤ 1 → number cs ≡ digitsSay cs
     unfolding number wellFormed
-    number-one l = rw (le-leb 1 (length cs) some, le-leb (length cs) 3 few, le-leb (length cs) 1 l)
+    number-one l = rw (le-leb 1 (length cs) some, le-leb (length cs) maxDigits few, le-leb (length cs) 1 l)
 
     pub number-more : 1 < length cs → digit 0 < getD cs 0 0 → number cs ≡ digitsSay cs
     unfolding number wellFormed
     number-more l h =
-        rw (le-leb 1 (length cs) some, le-leb (length cs) 3 few, lt-leb (length cs) 1 l, lt-ltb (digit 0) (getD cs 0 0) h)
+        rw (le-leb 1 (length cs) some, le-leb (length cs) maxDigits few, lt-leb (length cs) 1 l, lt-ltb (digit 0) (getD cs 0 0) h)
 
 -- a line without the first space, and one without the second
 pub first-unspaced : (line : List ℕ) → (getD line 1 0 ≡ space → ⊥) → firstLine line ≡ Unreadable

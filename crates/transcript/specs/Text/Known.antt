@@ -23,29 +23,30 @@ known-lines : (lines (97 ∷ 98 ∷ []) ≡ (97 ∷ 98 ∷ []) ∷ []) × (lines
 unfolding split unended
 known-lines = (refl, refl, refl)
 
--- the four letters; 0 and 999 are numbers
+-- the four letters; 0 and 9999 are numbers
 known-first-lines :
-    (firstLine (83 ∷ 32 ∷ 48 ∷ 32 ∷ 57 ∷ 57 ∷ 57 ∷ []) ≡ Opens (RoundRobin Scan) 0 999)
+    (firstLine (83 ∷ 32 ∷ 48 ∷ 32 ∷ 57 ∷ 57 ∷ 57 ∷ 57 ∷ []) ≡ Opens (RoundRobin Scan) 0 9999)
     × (firstLine (84 ∷ 32 ∷ 56 ∷ 32 ∷ 49 ∷ []) ≡ Opens (RoundRobin Tree) 8 1)
     × (firstLine (80 ∷ 32 ∷ 52 ∷ 32 ∷ 50 ∷ []) ≡ Opens (RoundRobin Thermometer) 4 2)
-    × (firstLine (66 ∷ 32 ∷ 50 ∷ 53 ∷ 54 ∷ 32 ∷ 49 ∷ []) ≡ Opens TokenBus 256 1)
+    × (firstLine (66 ∷ 32 ∷ 49 ∷ 48 ∷ 50 ∷ 52 ∷ 32 ∷ 49 ∷ []) ≡ Opens TokenBus 1024 1)
 unfolding firstLine number wellFormed place
 known-first-lines = (refl, refl, refl, refl)
 
--- a leading zero, a fourth digit, no number, a letter that is none, two spaces, a space or a carriage return at the end
+-- a leading zero, also of four digits, a fifth digit, no number, a letter that is none, two spaces, a space or a carriage return at the end
 known-unreadable :
     (firstLine (83 ∷ 32 ∷ 48 ∷ 52 ∷ 32 ∷ 49 ∷ []) ≡ Unreadable)
-    × (firstLine (83 ∷ 32 ∷ 49 ∷ 48 ∷ 48 ∷ 48 ∷ 32 ∷ 49 ∷ []) ≡ Unreadable)
+    × (firstLine (83 ∷ 32 ∷ 48 ∷ 48 ∷ 48 ∷ 52 ∷ 32 ∷ 49 ∷ []) ≡ Unreadable)
+    × (firstLine (83 ∷ 32 ∷ 49 ∷ 48 ∷ 48 ∷ 48 ∷ 48 ∷ 32 ∷ 49 ∷ []) ≡ Unreadable)
     × (firstLine (83 ∷ 32 ∷ 52 ∷ 32 ∷ []) ≡ Unreadable)
     × (firstLine (65 ∷ 32 ∷ 52 ∷ 32 ∷ 49 ∷ []) ≡ Unreadable)
     × (firstLine (83 ∷ 32 ∷ 32 ∷ 52 ∷ 32 ∷ 49 ∷ []) ≡ Unreadable)
     × (firstLine (83 ∷ 32 ∷ 52 ∷ 32 ∷ 49 ∷ 32 ∷ []) ≡ Unreadable)
     × (firstLine (83 ∷ 32 ∷ 52 ∷ 32 ∷ 49 ∷ 13 ∷ []) ≡ Unreadable)
 unfolding firstLine number wellFormed place
-known-unreadable = (refl, refl, refl, refl, refl, refl, refl)
+known-unreadable = (refl, refl, refl, refl, refl, refl, refl, refl)
 
 -- the lines of the output
-known-output : (refusal 5 8 2 ≡ (53 ∷ 32 ∷ 114 ∷ 101 ∷ 102 ∷ 117 ∷ 115 ∷ 101 ∷ 100 ∷ 32 ∷ 56 ∷ 32 ∷ 50 ∷ 10 ∷ [])) × (granted 10 (1 ∷ 0 ∷ []) 255 ≡ (49 ∷ 48 ∷ 32 ∷ 49 ∷ 48 ∷ 32 ∷ 50 ∷ 53 ∷ 53 ∷ 10 ∷ []))
+known-output : (refusal 5 8 2 ≡ (53 ∷ 32 ∷ 114 ∷ 101 ∷ 102 ∷ 117 ∷ 115 ∷ 101 ∷ 100 ∷ 32 ∷ 56 ∷ 32 ∷ 50 ∷ 10 ∷ [])) × (granted 10 (1 ∷ 0 ∷ []) 1023 ≡ (49 ∷ 48 ∷ 32 ∷ 49 ∷ 48 ∷ 32 ∷ 49 ∷ 48 ∷ 50 ∷ 51 ∷ 10 ∷ []))
 unfolding refusal granted decimal digits
 known-output = (refl, refl)
 
@@ -53,9 +54,9 @@ known-output = (refl, refl)
 known-refused :
     (text [] ≡ heading ++ (48 ∷ 32 ∷ 114 ∷ 101 ∷ 102 ∷ 117 ∷ 115 ∷ 101 ∷ 100 ∷ 32 ∷ 49 ∷ 49 ∷ 32 ∷ 48 ∷ 10 ∷ []))
     × (text (10 ∷ []) ≡ heading ++ (48 ∷ 32 ∷ 114 ∷ 101 ∷ 102 ∷ 117 ∷ 115 ∷ 101 ∷ 100 ∷ 32 ∷ 49 ∷ 49 ∷ 32 ∷ 48 ∷ 10 ∷ []))
-    × (text (83 ∷ 32 ∷ 57 ∷ 57 ∷ 57 ∷ 32 ∷ 49 ∷ []) ≡ heading ++ (48 ∷ 32 ∷ 114 ∷ 101 ∷ 102 ∷ 117 ∷ 115 ∷ 101 ∷ 100 ∷ 32 ∷ 49 ∷ 32 ∷ 48 ∷ 10 ∷ []))
+    × (text (83 ∷ 32 ∷ 49 ∷ 48 ∷ 50 ∷ 53 ∷ 32 ∷ 49 ∷ []) ≡ heading ++ (48 ∷ 32 ∷ 114 ∷ 101 ∷ 102 ∷ 117 ∷ 115 ∷ 101 ∷ 100 ∷ 32 ∷ 49 ∷ 32 ∷ 48 ∷ 10 ∷ []))
     × (text (84 ∷ 32 ∷ 54 ∷ 32 ∷ 49 ∷ []) ≡ heading ++ (48 ∷ 32 ∷ 114 ∷ 101 ∷ 102 ∷ 117 ∷ 115 ∷ 101 ∷ 100 ∷ 32 ∷ 50 ∷ 32 ∷ 48 ∷ 10 ∷ []))
-    × (text (83 ∷ 32 ∷ 52 ∷ 32 ∷ 49 ∷ 48 ∷ 48 ∷ []) ≡ heading ++ (48 ∷ 32 ∷ 114 ∷ 101 ∷ 102 ∷ 117 ∷ 115 ∷ 101 ∷ 100 ∷ 32 ∷ 51 ∷ 32 ∷ 48 ∷ 10 ∷ []))
+    × (text (83 ∷ 32 ∷ 52 ∷ 32 ∷ 49 ∷ 48 ∷ 48 ∷ 48 ∷ []) ≡ heading ++ (48 ∷ 32 ∷ 114 ∷ 101 ∷ 102 ∷ 117 ∷ 115 ∷ 101 ∷ 100 ∷ 32 ∷ 51 ∷ 32 ∷ 48 ∷ 10 ∷ []))
 unfolding text opened run cycle printed refusal decimal digits firstLine number wellFormed place split unended _then_ ifPassed
 known-refused = (refl, refl, refl, refl, refl)
 

@@ -51,8 +51,8 @@ pub text-follows : (input : List ℕ) → length input ≤ maxInput → text inp
 unfolding text
 text-follows input l = rw (le-leb (length input) maxInput l)
 
--- how long it is: what follows the heading is at most 21 times as long as the longest input
-opened-short : (first : FirstLine) (ls : List (List ℕ)) → totalLength ls ≤ maxInput → length (opened first ls) ≤ 21 * maxInput
+-- how long it is: what follows the heading is at most 19 times as long as the longest input
+opened-short : (first : FirstLine) (ls : List (List ℕ)) → totalLength ls ≤ maxInput → length (opened first ls) ≤ 19 * maxInput
 unfolding opened
 opened-short Unreadable ls l = omega (arith, refusal-short 0 11 0 (omega arith) (omega arith) (omega arith))
 opened-short (Opens e n m) ls l =
@@ -63,13 +63,16 @@ opened-short (Opens e n m) ls l =
     (λ t. rw t (omega (arith, run-short e (a .state) 1 ls (opening-wide e n m) (omega arith))))
     (λ f. rw f (omega (arith, refusal-short 0 (a .number) (a .place) (omega arith) (small .0) (omega arith))))
 
-follows-short : (body : List ℕ) → length body ≤ maxInput → length (follows body) ≤ 21 * maxInput
+follows-short : (body : List ℕ) → length body ≤ maxInput → length (follows body) ≤ 19 * maxInput
 follows-short body l =
     let ls = split lineFeed body in
     opened-short (firstLine (getD ls 0 [])) (drop 1 ls) (omega (arith, split-total lineFeed body, rest-total ls))
 
--- no text is longer than the heading and 21 bytes for each byte of the longest input
-pub text-fits : (input : List ℕ) → length (text input) ≤ 1376274
+-- no text is longer than the heading and 19 bytes for each byte of the longest input
+abbrev pub limit : ℕ
+limit = length heading + 19 * maxInput
+
+pub text-fits : (input : List ℕ) → length (text input) ≤ limit
 text-fits input =
     Lists.split (leb (length input) maxInput)
     (λ t.

@@ -8,6 +8,7 @@ use lib.ListN.{length, take, getD, length-map}
 use lib.Seq.{length-take-le}
 use borrow.Author.Needs.{needs}
 use Rattle.arbiter.specs.declared.State.{State}
+use Rattle.arbiter.specs.Questions.{maxWidth}
 use Rattle.transcript.specs.declared.first_line.Kind.{Kind}
 use Rattle.transcript.specs.Cycles.{wellFormed, wire, called}
 use Rattle.transcript.specs.Cycles.Laws.{formed-long, cycle-called, cycle-refused}
@@ -57,19 +58,19 @@ array-borrow-prefix-requests : tie.Need-array-borrow-prefix-requests
 array-borrow-prefix-requests c = search needs
 
 slice-aggregate-read-wires-2 : tie.Need-slice-aggregate-read-wires-2
-slice-aggregate-read-wires-2 c = front-length (c .before .before .before .before .before .before .args .s .width) 256 (c .before .before .before .before .before .before .pre .0)
+slice-aggregate-read-wires-2 c = front-length (c .before .before .before .before .before .before .args .s .width) maxWidth (c .before .before .before .before .before .before .pre .0)
 
 read-wires-requires : tie.Need-read-wires-requires
 read-wires-requires c κs =
     let a = c .before .before .before .before .before .before .args in
-    sym (front-length (a .s .width) 256 (c .before .before .before .before .before .before .pre .0))
+    sym (front-length (a .s .width) maxWidth (c .before .before .before .before .before .before .pre .0))
     ∙ sym (length-take-le (a .s .width) (a .line .now) (formed-long (a .kind) (a .s .width) (a .line .now) (formed (c .before .before .before .well-formed .ensures) (c .before .before .if1 .left))))
 
 array-share-prefix-requests : tie.Need-array-share-prefix-requests
-array-share-prefix-requests c = again-fits 256 (c .before .read-wires .last .1 .0) (read-length (c .before .before .before .before .before .before .before .before .args .kind) (c .before .before .before .before .before .before .before .before .args .s) (c .before .before .before .before .before .before .before .before .args .line .now) (formed (c .before .before .before .before .before .well-formed .ensures) (c .before .before .before .before .if1 .left)) (c .before .read-wires .ensures))
+array-share-prefix-requests c = again-fits maxWidth (c .before .read-wires .last .1 .0) (read-length (c .before .before .before .before .before .before .before .before .args .kind) (c .before .before .before .before .before .before .before .before .args .s) (c .before .before .before .before .before .before .before .before .args .line .now) (formed (c .before .before .before .before .before .well-formed .ensures) (c .before .before .before .before .if1 .left)) (c .before .read-wires .ensures))
 
 slice-aggregate-call : tie.Need-slice-aggregate-call
-slice-aggregate-call c = again-length 256 (c .before .before .read-wires .last .1 .0) (read-length (c .before .before .before .before .before .before .before .before .before .args .kind) (c .before .before .before .before .before .before .before .before .before .args .s) (c .before .before .before .before .before .before .before .before .before .args .line .now) (formed (c .before .before .before .before .before .before .well-formed .ensures) (c .before .before .before .before .before .if1 .left)) (c .before .before .read-wires .ensures))
+slice-aggregate-call c = again-length maxWidth (c .before .before .read-wires .last .1 .0) (read-length (c .before .before .before .before .before .before .before .before .before .args .kind) (c .before .before .before .before .before .before .before .before .before .args .s) (c .before .before .before .before .before .before .before .before .before .args .line .now) (formed (c .before .before .before .before .before .before .well-formed .ensures) (c .before .before .before .before .before .if1 .left)) (c .before .before .read-wires .ensures))
 
 call-requires : tie.Need-call-requires
 call-requires c κs = (c .before .before .before .before .before .before .before .before .before .before .pre .0, (formed (c .before .before .before .before .before .before .before .well-formed .ensures) (c .before .before .before .before .before .before .if1 .left), c .before .before .before .before .before .before .before .before .before .before .pre .1))
@@ -83,7 +84,7 @@ returns-2 c =
     let n = a .s .width in
     let byte = wire (getD (a .line .now) (n + 1) 0) in
     let long = read-length (a .kind) (a .s) (a .line .now) (formed (c .before .before .before .before .before .before .before .before .before .before .well-formed .ensures) (c .before .before .before .before .before .before .before .before .before .if1 .left)) (c .before .before .before .before .before .before .read-wires .ensures) in
-    told-of (λ requests. called (a .kind) (a .s) requests byte) (again 256 (c .before .before .before .before .before .before .read-wires .last .1 .0) long ∙ c .before .before .before .before .before .before .read-wires .ensures)
+    told-of (λ requests. called (a .kind) (a .s) requests byte) (again maxWidth (c .before .before .before .before .before .before .read-wires .last .1 .0) long ∙ c .before .before .before .before .before .before .read-wires .ensures)
     (cycle-called (a .kind) (a .s) (a .line .now) (formed (c .before .before .before .before .before .before .before .before .before .before .well-formed .ensures) (c .before .before .before .before .before .before .before .before .before .if1 .left))) (c .before .before .call .ensures .0) (c .before .before .call .ensures .1)
 
 pub cycle-spec : {M : Type 1} → statement M

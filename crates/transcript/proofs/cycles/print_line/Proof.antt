@@ -9,6 +9,7 @@ use Rattle.rules.specs.RoundRobin.{start}
 use Rattle.text.specs.Output.Laws.{same-put}
 use Rattle.arbiter.specs.declared.Answer.{Answer}
 use Rattle.arbiter.specs.declared.State.{State}
+use Rattle.arbiter.specs.Questions.{maxWidth}
 use Rattle.arbiter.specs.Answers.{Outcome}
 use Rattle.transcript.specs.declared.first_line.Kind.{Kind}
 use Rattle.transcript.specs.Cycles.{cycle, refusal, granted, printed}
@@ -34,10 +35,10 @@ array-borrow-prefix-grants : tie.Need-array-borrow-prefix-grants
 array-borrow-prefix-grants c = search needs
 
 slice-aggregate-cycle : tie.Need-slice-aggregate-cycle
-slice-aggregate-cycle c = front-length (c .before .before .before .before .args .run .state .width) 256 (c .before .before .before .before .pre .0)
+slice-aggregate-cycle c = front-length (c .before .before .before .before .args .run .state .width) maxWidth (c .before .before .before .before .pre .0)
 
 cycle-requires : tie.Need-cycle-requires
-cycle-requires c κs = (c .before .before .before .before .pre .0, front-zeros (c .before .before .before .before .args .run .state .width) 256 (c .before .before .before .before .pre .0))
+cycle-requires c κs = (c .before .before .before .before .pre .0, front-zeros (c .before .before .before .before .args .run .state .width) maxWidth (c .before .before .before .before .pre .0))
 
 add-number : tie.Need-add-number
 add-number c = search needs
@@ -61,12 +62,12 @@ first-station-requires c κs = search needs
 array-share-prefix-grants : tie.Need-array-share-prefix-grants
 array-share-prefix-grants c =
     let a = c .before .before .before .before .before .before .before .before .before .before .before .args in
-    again-fits 256 (c .before .before .before .before .before .before .cycle .last .1 .1 .1 .0) (written-length (a .kind) (a .run .state) (a .line .now) (c .before .before .before .before .before .before .cycle .ensures .1))
+    again-fits maxWidth (c .before .before .before .before .before .before .cycle .last .1 .1 .1 .0) (written-length (a .kind) (a .run .state) (a .line .now) (c .before .before .before .before .before .before .cycle .ensures .1))
 
 slice-aggregate-put-granted : tie.Need-slice-aggregate-put-granted
 slice-aggregate-put-granted c =
     let a = c .before .before .before .before .before .before .before .before .before .before .before .before .args in
-    again-length 256 (c .before .before .before .before .before .before .before .cycle .last .1 .1 .1 .0) (written-length (a .kind) (a .run .state) (a .line .now) (c .before .before .before .before .before .before .before .cycle .ensures .1))
+    again-length maxWidth (c .before .before .before .before .before .before .before .cycle .last .1 .1 .1 .0) (written-length (a .kind) (a .run .state) (a .line .now) (c .before .before .before .before .before .before .before .cycle .ensures .1))
 
 put-granted-requires : tie.Need-put-granted-requires
 put-granted-requires c κs = tt
@@ -78,7 +79,7 @@ returns-2 : tie.Need-returns-2
 returns-2 c =
     let a = c .before .before .before .before .before .before .before .before .before .before .before .before .before .before .before .before .args in
     let o = c .before .before .before .before .before .before .before .before .before .before .before .cycle .ensures in
-    let part = again 256 (c .before .before .before .before .before .before .before .before .before .before .before .cycle .last .1 .1 .1 .0) (written-length (a .kind) (a .run .state) (a .line .now) (o .1)) in (
+    let part = again maxWidth (c .before .before .before .before .before .before .before .before .before .before .before .cycle .last .1 .1 .1 .0) (written-length (a .kind) (a .run .state) (a .line .now) (o .1)) in (
       same-put
           (sym (granted-text (a .run .number) (cycle (a .kind) (a .run .state) (a .line .now)) (o .0) (part ∙ o .1) (c .before .before .before .before .before .first-station .ensures) (c .before .before .before .before .before .before .if1 .left)))
           (c .before .before .put-granted .ensures),

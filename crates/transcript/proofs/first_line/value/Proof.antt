@@ -4,7 +4,7 @@ use Prim.Native.Nat.{_-_}
 use mathlib.Core.Path.{sym}
 use native.Mathlib.Omega.{arith}
 use lib.ListN.{length}
-use Rattle.transcript.specs.FirstLine.Laws.{Read, none-read, two-read, all-read, no-digit, one-read, below-digit, above-digit}
+use Rattle.transcript.specs.FirstLine.Laws.{Read, none-read, few-read, all-read, no-digit, one-read, below-digit, above-digit}
 use Rattle.transcript.proofs.first_line.value.Statement.{statement}
 use Rattle.transcript.proofs.first_line.value.Tie as tie
 
@@ -27,13 +27,13 @@ returns-2 : tie.Need-returns-2 Inv-loop μ-loop
 returns-2 c = sym (rw (no-digit _ (c .before .before .before .before .loop .inv) (c .before .before .before .loop-test .taken) (above-digit _ (c .if2 .taken))))
 
 mul-value : tie.Need-mul-value Inv-loop μ-loop
-mul-value c = omega (arith, two-read _ (c .before .before .before .before .loop .inv) (omega (arith, c .before .before .before .before .before .pre)))
+mul-value c = omega (arith, few-read _ (c .before .before .before .before .loop .inv) (omega (arith, c .before .before .before .before .before .pre)))
 
 cast-value : tie.Need-cast-value Inv-loop μ-loop
 cast-value c = omega (arith, c .if2 .left)
 
 add-value : tie.Need-add-value Inv-loop μ-loop
-add-value c = omega (arith, two-read _ (c .before .before .before .before .loop .inv) (omega (arith, c .before .before .before .before .before .pre)), c .if2 .left)
+add-value c = omega (arith, few-read _ (c .before .before .before .before .loop .inv) (omega (arith, c .before .before .before .before .before .pre)), c .if2 .left)
 
 add-i : tie.Need-add-i Inv-loop μ-loop
 add-i c = omega arith

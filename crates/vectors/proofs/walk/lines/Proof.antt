@@ -6,10 +6,10 @@ use Rattle.vectors.proofs.walk.lines.Statement.{statement}
 use Rattle.vectors.proofs.walk.lines.Tie as tie
 
 abbrev Inv-loop : tie.InvT-loop
-Inv-loop names group cases which₀ which = which ≤ 8
+Inv-loop names group cases which₀ which = which ≤ 9
 
 abbrev μ-loop : tie.MeasureT-loop
-μ-loop names group cases which₀ which = 8 - which
+μ-loop names group cases which₀ which = 9 - which
 
 pub lines-spec : {M : Type 1} → statement M
 lines-spec =
