@@ -71,7 +71,8 @@ impl KoggeStone {
     }
 }
 
-// A cycle that no question refuses. `high` is the highest byte of the requests: where it is 0 nobody asks. Else the network counts.
+// A cycle that no question refuses. `high` is the highest byte of the requests: where it is 0 nobody asks. Else the network counts,
+// and takes the grant buffer for the room that it needs: all its bytes are written afterwards.
 fn arbitrate(
     width: usize,
     picks: usize,
@@ -98,7 +99,7 @@ fn arbitrate(
     let full = adder::code(picks);
     let end = width + 1;
     let mut counts = [0u8; MAX_COUNTS];
-    network::run(full, head, requests, &mut counts[1..end]);
+    network::run(full, head, requests, &mut counts[1..end], grants);
     read_off(full, head, requests, &counts[0..end], grants)
 }
 

@@ -1,5 +1,4 @@
 // The Kogge-Stone network: codes over the positions of the order, joined at distances 1, 2, 4 and so on.
-use arbiter::MAX_WIDTH;
 use arbiter::first_station;
 use rules::Head;
 ghost use mathlib.Core.Bool.{true};
@@ -17,21 +16,20 @@ ghost use Rattle.arbiter.specs.Questions.{maxWidth};
 ghost use Rattle.kogge_stone.specs.Steps.{Codes};
 
 // Writes what comes out of the network: for each position of the order the code of how many ask up to it, its own station included,
-// or of the picks where those are fewer. `full` is the code of the picks.
-pub(crate) fn run(full: u8, head: Head, requests: &[u8], codes: &mut [u8])
+// or of the picks where those are fewer. `full` is the code of the picks. `before` is room for as many codes, whatever it holds.
+pub(crate) fn run(full: u8, head: Head, requests: &[u8], codes: &mut [u8], before: &mut [u8])
     requires { ⌜ Rule.isCode 8 full ≡ true ⌝ }
     requires { ⌜ 1 ≤ ones full ⌝ }
     requires { ⌜ start head < length (now requests) ⌝ }
     requires { ⌜ length (now requests) ≤ maxWidth ⌝ }
     requires { ⌜ Bits (now requests) ⌝ }
     requires { ⌜ length (now codes) ≡ length (now requests) ⌝ }
+    requires { ⌜ length (now before) ≡ length (now requests) ⌝ }
     ensures { λ _. ⌜ now (codes .exit) ≡ Network.network (length (now (requests .entry))) (ones full) head (requested (now (requests .entry))) ⌝ }
 {
-    let width = codes.len();
     let first = first_station(head);
     rotate(first, requests, codes);
-    let mut before = [0u8; MAX_WIDTH];
-    join_all(full, codes, &mut before[0..width]);
+    join_all(full, codes, before);
 }
 
 // Writes the requests in the order that starts at station `first`.

@@ -1,6 +1,6 @@
 -- What the steps of the tree's cycle promise. The promise of its calls is Calls.
 -- Assumes nothing.
-use Prim.Native.Nat.{ℕ, _+_, _-_, _*_, _/_, _≤_, _<_}
+use Prim.Native.Nat.{ℕ, _+_, _-_, _*_, _≤_, _<_}
 use mathlib.Core.Path.{_≡_}
 use mathlib.Core.List.{List}
 use lib.ListN.{length, getD, drop}
@@ -8,7 +8,6 @@ use Rattle.rules.specs.declared.Head.{Head}
 use Rattle.rules.specs.Tree as Rule
 use Rattle.arbiter.specs.declared.Decision.{Decision}
 use Rattle.arbiter.specs.Decisions.{deciding}
-use Rattle.arbiter.specs.Questions.{maxWidth}
 pub mod Laws
 
 -- every byte of a node buffer for n stations is a node's value
@@ -19,9 +18,9 @@ Values n t = (u : ℕ) → u < 2 * n → getD t u 0 < 4
 abbrev pub ValuesFrom : ℕ → ℕ → List ℕ → Type 0
 ValuesFrom low n t = (u : ℕ) → low ≤ u → u < 2 * n → getD t u 0 < 4
 
--- the most pairs of a level: half of the most stations
+-- the most pairs that are joined at once
 abbrev pub maxPairs : ℕ
-maxPairs = maxWidth / 2
+maxPairs = 128
 
 -- the children of the nodes of t from `from` up to `to`, a pair for each: left + 256 × right
 pub record Pairs (from to : ℕ) (t pairs : List ℕ) : Type 0 where

@@ -16,7 +16,6 @@ ghost use mathlib.Core.Path.{_≡_};
 ghost use Prim.Native.Nat.{_*_, _≤_, _<_};
 ghost use lib.ListN.{length, replicate};
 ghost use Rattle.rules.specs.Tree as Rule;
-ghost use Rattle.arbiter.specs.Questions.{maxWidth};
 ghost use Rattle.tree.specs.Calls as Calls;
 ghost use Rattle.tree.specs.Steps as Steps;
 
@@ -71,7 +70,6 @@ fn opening(width: usize, picks: usize, head: Head) -> Answer
 // Grants the station that the descent reaches, if it asks. The grant buffer is all 0 before.
 fn grant(width: usize, head: Head, nodes: &[u8], grants: &mut [u8]) -> Decision
     requires { ⌜ 1 ≤ width ⌝ }
-    requires { ⌜ width ≤ maxWidth ⌝ }
     requires { ⌜ length (now nodes) ≡ 2 * width ⌝ }
     requires { ⌜ Steps.Values width (now nodes) ⌝ }
     requires { ⌜ now grants ≡ replicate width 0 ⌝ }

@@ -1,21 +1,19 @@
 // The node buffer: byte 0 is 0, node 1 is the root, node u has the children 2u and 2u + 1, and station i is node width + i. A
 // node's value is 2 × S1 + S0: S1 says that the head is below it, S0 that a station below it asks.
-use arbiter::MAX_WIDTH;
 use rules::Head;
 ghost use mathlib.Core.Path.{_≡_};
 ghost use mathlib.Core.List.{map};
-ghost use Prim.Native.Nat.{_+_, _-_, _*_, _≤_, _<_};
+ghost use Prim.Native.Nat.{_+_, _-_, _*_, _/_, _≤_, _<_, min};
 ghost use lib.ListN.{length, drop};
 ghost use Rattle.rules.specs.Lists.{range};
 ghost use Rattle.rules.specs.RoundRobin.{start};
 ghost use Rattle.rules.specs.Tree as Rule;
 ghost use Rattle.arbiter.specs.Decisions.{requested};
 ghost use Rattle.arbiter.specs.Places.{Bits};
-ghost use Rattle.arbiter.specs.Questions.{maxWidth};
 ghost use Rattle.tree.specs.Steps as Steps;
 
-// The most pairs of a level.
-const MAX_PAIRS: usize = MAX_WIDTH / 2;
+// No more pairs than these are joined at once, so that the array of them stays small.
+const MAX_PAIRS: usize = 128;
 
 // No more nodes than these are joined one by one.
 const FEW_NODES: usize = 16;
@@ -23,7 +21,6 @@ const FEW_NODES: usize = 16;
 // Writes the tree of these requests and the head.
 pub(crate) fn build(width: usize, head: Head, requests: &[u8], nodes: &mut [u8])
     requires { ⌜ 1 ≤ width ⌝ }
-    requires { ⌜ width ≤ maxWidth ⌝ }
     requires { ⌜ start head < width ⌝ }
     requires { ⌜ length (now requests) ≡ width ⌝ }
     requires { ⌜ Bits (now requests) ⌝ }
@@ -64,7 +61,6 @@ fn mark_head(width: usize, head: Head, nodes: &mut [u8])
 // Joins the nodes from the last that is no station's up to the root, and sets byte 0.
 fn join_all(width: usize, nodes: &mut [u8])
     requires { ⌜ 1 ≤ width ⌝ }
-    requires { ⌜ width ≤ maxWidth ⌝ }
     requires { ⌜ length (now nodes) ≡ 2 * width ⌝ }
     requires { ⌜ Steps.ValuesFrom width width (now nodes) ⌝ }
     ensures { λ _. ⌜ now (nodes .exit) ≡ Rule.joined (width - 1) (drop width (now (nodes .entry))) ⌝ }
@@ -77,11 +73,10 @@ fn join_all(width: usize, nodes: &mut [u8])
     nodes[0] = 0;
 }
 
-// Joins whole levels while more than a few nodes are left, and says from which node on the buffer is done. A level's children are
-// read before any of its nodes is written, so that the compiler can join many at once. A small tree makes no array.
+// Joins level after level, or parts of them, while more than a few nodes are left, and says from which node on the buffer is done.
+// The children are read before any of the nodes is written, so that the compiler can join many at once. A small tree makes no array.
 fn join_levels(width: usize, nodes: &mut [u8]) -> usize
     requires { ⌜ 1 ≤ width ⌝ }
-    requires { ⌜ width ≤ maxWidth ⌝ }
     requires { ⌜ length (now nodes) ≡ 2 * width ⌝ }
     requires { ⌜ Steps.ValuesFrom width width (now nodes) ⌝ }
     ensures { λ r. ⌜ Steps.DoneFrom r width (Rule.joined (width - 1) (drop width (now (nodes .entry)))) (now (nodes .exit)) ⌝ }
@@ -92,12 +87,23 @@ fn join_levels(width: usize, nodes: &mut [u8]) -> usize
     let mut pairs = [0u16; MAX_PAIRS];
     let mut low = width;
     while FEW_NODES < low {
-        let from = low - low / 2;
+        let from = low - pairs_below(low);
         read_pairs(from, low, nodes, &mut pairs);
         join_pairs(from, low, &pairs, nodes);
         low = from;
     }
     low
+}
+
+// How many of the nodes below `low` are joined next: half of them, which have no child among themselves, but not too many.
+fn pairs_below(low: usize) -> usize
+    ensures { λ r. ⌜ r ≡ min (low / 2) Steps.maxPairs ⌝ }
+{
+    let half = low / 2;
+    if half < MAX_PAIRS {
+        return half;
+    }
+    MAX_PAIRS
 }
 
 // Reads the children of the nodes from `from` up to `to`, a pair for each: left + 256 × right.
@@ -132,14 +138,14 @@ fn join_pairs(from: usize, to: usize, pairs: &[u16; MAX_PAIRS], nodes: &mut [u8]
     }
 }
 
-// The value of a node with these children, both below 4, bit by bit: S1 of either, and S0 of the right, or of the left where
-// the right has no S1.
+// The value of a node with these children, both below 4, bit by bit: both bits of the right, S1 of the left, and its S0 where the
+// right has no S1.
 fn join(left: u8, right: u8) -> u8
     requires { ⌜ left < 4 ⌝ }
     requires { ⌜ right < 4 ⌝ }
     ensures { λ r. ⌜ r ≡ Rule.join left right ⌝ }
 {
-    ((left | right) & 2) | ((right | (left & !(right >> 1))) & 1)
+    right | (left & !(right >> 1))
 }
 
 // The S0 of a value.

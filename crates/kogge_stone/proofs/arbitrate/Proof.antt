@@ -31,24 +31,24 @@ returns c =
 
 run-requires : tie.Need-run-requires
 run-requires c κs =
-    let k = c .before in
+    let k = c .before .before in
     let b = k .before .before .before .before in
     let few = b .pre .1 .1 .1 .0 in
     let size = b .pre .1 .1 .1 .1 .0 in (
       full-is-code 8 _ _ few (k .code .ensures),
       (
         omega (arith, full-ones 8 _ _ few (k .code .ensures)),
-        (omega arith, (omega arith, (b .pre .1 .1 .1 .1 .1 .0, simp length-take (omega arith)))),
+        (omega arith, (omega arith, (b .pre .1 .1 .1 .1 .1 .0, (simp length-take (omega arith), omega arith)))),
       ),
     )
 
 part-read-off-end : tie.Need-part-read-off-end
-part-read-off-end c = simp (length-append, length-drop) (omega (arith, c .before .before .run .kept))
+part-read-off-end c = simp (length-append, length-drop) (omega (arith, c .before .before .before .before .run .kept))
 
 read-off-requires : tie.Need-read-off-requires
 read-off-requires c κs =
-    let r = c .before .before .before .before in
-    let k = r .before .before in
+    let r = c .before .before .before .before .before .before in
+    let k = r .before .before .before in
     let b = k .before .before .before .before in
     let a = b .args in
     let few = b .pre .1 .1 .1 .0 in
@@ -72,7 +72,7 @@ read-off-requires c κs =
 returns-2 : tie.Need-returns-2
 returns-2 c =
     let o = c .before .before in
-    let k = o .before .before .before .before .before .before .before in
+    let k = o .before .before .before .before .before .before .before .before .before .before in
     let b = k .before .before .before .before in
     let m = full-ones 8 _ _ (b .pre .1 .1 .1 .0) (k .code .ensures) in
     rw (m, b .pre .1 .1 .1 .1 .0) at (o .read-off .ensures)

@@ -34,7 +34,7 @@ slice-write-grants : tie.Need-slice-write-grants
 slice-write-grants c =
     let k = c .before .before .before in
     let b = k .before .before .before in
-    omega (arith, below k, ap length (b .pre .1 .1 .1 .1), length-replicate {A = ℕ} (b .args .width) 0)
+    omega (arith, below k, ap length (b .pre .1 .1 .1), length-replicate {A = ℕ} (b .args .width) 0)
 
 decide-requires : tie.Need-decide-requires
 decide-requires c κs = search needs
@@ -61,7 +61,7 @@ returns c =
     let e = k .reached .ensures in
     let yes = sym (asks (i .before)) ∙ i .if1 .taken in (
       c .decide .ensures ∙ counted-one (a .width) _ (a .head) (below k) ∙ rw e (descended-one (a .width) (a .nodes .now) (a .head) yes),
-      rw (b .pre .1 .1 .1 .1, e) (grants-one (a .width) (a .nodes .now) (b .pre .0) yes),
+      rw (b .pre .1 .1 .1, e) (grants-one (a .width) (a .nodes .now) (b .pre .0) yes),
     )
 
 idle-requires : tie.Need-idle-requires
@@ -74,7 +74,7 @@ returns-2 c =
     let a = b .args in
     let no-one = sym (asks (i .before)) ∙ i .if1 .left in (
       c .idle .ensures ∙ descended-none (a .width) (a .nodes .now) (a .head) no-one,
-      b .pre .1 .1 .1 .1 ∙ grants-none (a .width) (a .nodes .now) no-one,
+      b .pre .1 .1 .1 ∙ grants-none (a .width) (a .nodes .now) no-one,
     )
 
 pub grant-spec : {M : Type 1} → statement M

@@ -35,7 +35,7 @@ clear-requires c κs = search needs
 build-requires : tie.Need-build-requires
 build-requires c κs =
     let e = asked (c .before .before .before .before .before) in
-    (e .allows .some, (e .allows .most, (e .allows .station, (e .asked, (e .wires, e .space)))))
+    (e .allows .some, (e .allows .station, (e .asked, (e .wires, e .space))))
 
 grant-requires : tie.Need-grant-requires
 grant-requires c κs =
@@ -49,11 +49,8 @@ grant-requires c κs =
     let asks = requested (a .requests .now) in (
       e .allows .some,
       (
-        e .allows .most,
-        (
-          ap length is ∙ tree-length (s .width) (s .picks) (s .head) asks (e .allows),
-          (rw is (tree-values (s .width) (s .picks) (s .head) asks (e .allows)), k .clear .ensures ∙ rw (e .room)),
-        ),
+        ap length is ∙ tree-length (s .width) (s .picks) (s .head) asks (e .allows),
+        (rw is (tree-values (s .width) (s .picks) (s .head) asks (e .allows)), k .clear .ensures ∙ rw (e .room)),
       ),
     )
 

@@ -20,7 +20,7 @@ mark-head-requires : tie.Need-mark-head-requires
 mark-head-requires c κs =
     let w = c .before .before .before in
     let b = w .before .before .before .before in
-    (b .pre .1 .1 .0, (omega arith, rw (w .write-requests .ensures) (b .pre .1 .1 .1 .1 .0)))
+    (b .pre .1 .0, (omega arith, rw (w .write-requests .ensures) (b .pre .1 .1 .1 .0)))
 
 -- the stations' nodes, once they are written
 stations : (c : tie.After-mark-head)
@@ -32,7 +32,7 @@ join-all-requires : tie.Need-join-all-requires
 join-all-requires c κs =
     let m = c .before .before .before in
     let b = m .before .before .before .before .before .before .before .before in
-    (b .pre .0, (b .pre .1 .0, (omega arith, leaves-low _ (b .args .head) (requested (b .args .requests .now)) _ (stations m))))
+    (b .pre .0, (omega arith, leaves-low _ (b .args .head) (requested (b .args .requests .now)) _ (stations m)))
 
 same-length : tie.Need-same-length
 same-length c = search needs

@@ -24,7 +24,7 @@ loop-holds : tie.Need-loop-holds Inv-loop μ-loop
 loop-holds c =
     let j = c .before .before in
     let d = j .join-levels .ensures in
-    (j .join-levels .kept .1 .0 ∙ j .before .before .before .pre .1 .1 .0, done-begins _ _ _ (d .some) (d .most) (d .values))
+    (j .join-levels .kept .1 .0 ∙ j .before .before .before .pre .1 .0, done-begins _ _ _ (d .some) (d .most) (d .values))
 
 sub-u : tie.Need-sub-u Inv-loop μ-loop
 sub-u c = omega arith
