@@ -2,7 +2,7 @@
 -- Assumes nothing.
 use Prim.Native.Nat.{ℕ, _+_, _-_, _/_, _%_, _≤_, _<_}
 use mathlib.Core.Path.{_≡_, refl, sym, ap, _∙_}
-use mathlib.Core.Bool.{true, false, _||_}
+use mathlib.Core.Bool.{true, _||_}
 use mathlib.Core.List.{List, [], _∷_}
 use native.Mathlib.Omega.{arith}
 use lib.Dec.{eqb, ltb}
@@ -19,7 +19,7 @@ use Rattle.arbiter.specs.Places.Laws.{Free, free-of}
 use Rattle.arbiter.specs.Questions as Questions
 use Rattle.arbiter.specs.Questions.{_then_}
 use Rattle.arbiter.specs.Questions.Laws as Asked
-use Rattle.arbiter.specs.Answers.{made, nothing, served, refused, opened, ifPassed}
+use Rattle.arbiter.specs.Answers.{made, served, opened, ifPassed}
 use Rattle.arbiter.specs.Answers.Laws as Answers
 use Rattle.snapshot.specs.declared.Fields.{Fields}
 use Rattle.snapshot.specs.Calls as Snapshot

@@ -13,7 +13,7 @@ use arbiter::idle;
 use arbiter::refusal;
 use rules::Head;
 ghost use mathlib.Core.Path.{_≡_};
-ghost use Prim.Native.Nat.{_*_, _≤_, _<_};
+ghost use Prim.Native.Nat.{_*_, _≤_};
 ghost use lib.ListN.{length, replicate};
 ghost use Rattle.rules.specs.Tree as Rule;
 ghost use Rattle.tree.specs.Calls as Calls;

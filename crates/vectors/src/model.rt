@@ -8,7 +8,6 @@ use crate::packed;
 use arbiter::Answer;
 use arbiter::State;
 use rules::Head;
-ghost use Prim.Native.Nat.{_≤_};
 
 // What a cycle came to: whether it is as the model says, and the state it left.
 pub struct Cycle {

@@ -17,7 +17,7 @@ known-unpack : unpack 11 (137 ∷ 2 ∷ []) ≡ wires
 unfolding unpack
 known-unpack = refl
 
-known-lengths : map packedLength (0 ∷ 1 ∷ 7 ∷ 8 ∷ 9 ∷ 16 ∷ 255 ∷ 256 ∷ []) ≡ 0 ∷ 1 ∷ 1 ∷ 1 ∷ 2 ∷ 2 ∷ 32 ∷ 32 ∷ []
+known-lengths : map packedLength (0 ∷ 1 ∷ 7 ∷ 8 ∷ 9 ∷ 16 ∷ 255 ∷ 256 ∷ 1023 ∷ 1024 ∷ []) ≡ 0 ∷ 1 ∷ 1 ∷ 1 ∷ 2 ∷ 2 ∷ 32 ∷ 32 ∷ 128 ∷ 128 ∷ []
 known-lengths = refl
 
 -- of byte 72, lines 3 and 6 are set

@@ -8,30 +8,6 @@ use Rattle.arbiter.specs.Questions.Laws.{chained}
 use Rattle.snapshot.proofs.allowed.Statement.{statement}
 use Rattle.snapshot.proofs.allowed.Tie as tie
 
-marked-requires : tie.Need-marked-requires
-marked-requires c κs = search needs
-
-width-requires : tie.Need-width-requires
-width-requires c κs = search needs
-
-picks-requires : tie.Need-picks-requires
-picks-requires c κs = search needs
-
-head-requires : tie.Need-head-requires
-head-requires c κs = search needs
-
-refuse-unless-requires : tie.Need-refuse-unless-requires
-refuse-unless-requires c κs = search needs
-
-then-requires : tie.Need-then-requires
-then-requires c κs = search needs
-
-then-requires-2 : tie.Need-then-requires-2
-then-requires-2 c κs = search needs
-
-then-requires-3 : tie.Need-then-requires-3
-then-requires-3 c κs = search needs
-
 returns : tie.Need-returns
 returns c =
     let stray = c .before .before .before in
@@ -47,14 +23,5 @@ returns c =
 
 pub allowed-spec : {M : Type 1} → statement M
 allowed-spec =
-    tie.close
-    (tie.spec
-    marked-requires
-    width-requires
-    picks-requires
-    head-requires
-    refuse-unless-requires
-    then-requires
-    then-requires-2
-    then-requires-3
-    returns)
+    let part1 = tie.spec (λ c κs. search needs) (λ c κs. search needs) (λ c κs. search needs) (λ c κs. search needs) (λ c κs. search needs) in
+    tie.close (part1 (λ c κs. search needs) (λ c κs. search needs) (λ c κs. search needs) returns)

@@ -6,7 +6,6 @@ use lib.ListN.{length}
 use borrow.Author.Needs.{needs}
 use Rattle.arbiter.specs.declared.question.Verdict.{Verdict}
 use Rattle.arbiter.specs.Questions.Laws.{chained, refused, passed}
-use Rattle.snapshot.specs.declared.Fields.{Fields}
 use Rattle.snapshot.specs.Calls.{readLength, allowed}
 use Rattle.snapshot.specs.Calls.Laws.{read-some, asked}
 use Rattle.snapshot.proofs.readable.Statement.{statement}

@@ -1,8 +1,8 @@
 -- Laws of the snapshot.
 -- Assumes nothing.
-use Prim.Native.Nat.{ℕ, _+_, _*_, _-_, _/_, _%_, _<_, _≤_}
+use Prim.Native.Nat.{ℕ, _+_, _-_, _/_, _%_, _<_, _≤_}
 use mathlib.Core.Path.{_≡_, refl, sym, ap, _∙_}
-use mathlib.Core.Bool.{true, cond, _||_}
+use mathlib.Core.Bool.{cond, _||_}
 use mathlib.Core.List.{List, [], _∷_}
 use native.Mathlib.Omega.{arith}
 use lib.Dec.{eqb}
@@ -18,7 +18,6 @@ use Rattle.arbiter.specs.declared.question.Verdict.{Verdict}
 use Rattle.arbiter.specs.Questions as Questions
 use Rattle.arbiter.specs.Questions.{_then_}
 use Rattle.arbiter.specs.Questions.Laws.{then-served, unless-served, width-passes}
-use Rattle.snapshot.specs.declared.Fields.{Fields}
 use Rattle.snapshot.specs.Calls.{size, shortSize, mark, headBytes, saved, longFields, shortFields, fields, marked, readLength, noStray, allowed, longQuestions, shortQuestions, questions}
 
 -- a list of six
@@ -38,7 +37,7 @@ pub six-set : (a b c d f g : ℕ) (l : List ℕ) → length l ≡ size
 six-set a b c d f g l e = ap (λ (l : List ℕ). set (set (set (set (set (set l 0 a) 1 b) 2 c) 3 d) 4 f) 5 g) (six l e)
 
 -- the head's bytes, by the station where the order starts
-pub head-bytes : (h : Head) → headBytes h ≡ start h % 256 ∷ start h / 256 ∷ mark h ∷ []
+head-bytes : (h : Head) → headBytes h ≡ start h % 256 ∷ start h / 256 ∷ mark h ∷ []
 head-bytes None = rw start-none
 head-bytes (At h) = rw (start-at h)
 
@@ -56,7 +55,7 @@ unfolding fields
 fields-long bytes e =
     let not-short : length bytes ≡ shortSize → ⊥ = λ s. absurd (omega arith) in rw (ne-eqb (length bytes) shortSize not-short)
 
-pub short-width : (bytes : List ℕ) → shortFields bytes .width ≡ getD bytes 0 0 + 1
+short-width : (bytes : List ℕ) → shortFields bytes .width ≡ getD bytes 0 0 + 1
 unfolding shortFields
 short-width bytes = refl
 

@@ -5,9 +5,9 @@ use mathlib.Core.Path.{_≡_, refl}
 use mathlib.Core.List.{List, [], _∷_, map}
 use Rattle.text.specs.Characters.{digits, decimal, bits}
 
--- 0, 9, 10, 256 and 65536
-pub known-decimals : map decimal (0 ∷ 9 ∷ 10 ∷ 256 ∷ 65536 ∷ [])
-    ≡ (48 ∷ []) ∷ (57 ∷ []) ∷ (49 ∷ 48 ∷ []) ∷ (50 ∷ 53 ∷ 54 ∷ []) ∷ (54 ∷ 53 ∷ 53 ∷ 51 ∷ 54 ∷ []) ∷ []
+-- 0, 9, 10, 1024 and 65536
+pub known-decimals : map decimal (0 ∷ 9 ∷ 10 ∷ 1024 ∷ 65536 ∷ [])
+    ≡ (48 ∷ []) ∷ (57 ∷ []) ∷ (49 ∷ 48 ∷ []) ∷ (49 ∷ 48 ∷ 50 ∷ 52 ∷ []) ∷ (54 ∷ 53 ∷ 53 ∷ 51 ∷ 54 ∷ []) ∷ []
 unfolding decimal digits
 known-decimals = refl
 

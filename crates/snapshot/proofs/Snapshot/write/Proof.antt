@@ -1,17 +1,12 @@
 -- `write` meets its contract: six bytes are written, each within a byte's range by the questions asked.
 -- Assumes nothing.
-use Prim.Native.Nat.{_-_, _/_, _%_, _<_}
-use mathlib.Core.Path.{_≡_, sym, ap, _∙_}
-use mathlib.Core.List.{[], _∷_}
+use mathlib.Core.Path.{_∙_}
 use native.Mathlib.Omega.{arith}
 use lib.ListN.{length, length-set}
 use borrow.Author.Needs.{needs}
-use Rattle.rules.specs.declared.Head.{Head}
-use Rattle.rules.specs.RoundRobin.{start}
 use Rattle.arbiter.specs.Questions.Laws.{Writable, writable}
-use Rattle.arbiter.specs.Answers.{moved, served}
 use Rattle.arbiter.specs.Answers.Laws.{written, unwritten}
-use Rattle.snapshot.specs.Calls.{size, mark, saved}
+use Rattle.snapshot.specs.Calls.{size}
 use Rattle.snapshot.specs.Calls.Laws.{six-set, six-saved}
 use Rattle.snapshot.proofs.Snapshot.write.Statement.{statement}
 use Rattle.snapshot.proofs.Snapshot.write.Tie as tie
