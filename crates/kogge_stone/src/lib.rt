@@ -33,6 +33,9 @@ ghost use Rattle.kogge_stone.specs.Steps as Steps;
 // One count more than there are stations.
 const MAX_COUNTS: usize = MAX_WIDTH + 1;
 
+// A cycle with no more counts than these makes a small array of them.
+const FEW_COUNTS: usize = 65;
+
 // A state that the Kogge-Stone arbiter serves.
 pub struct KoggeStone(pub State);
 
@@ -71,8 +74,7 @@ impl KoggeStone {
     }
 }
 
-// A cycle that no question refuses. `high` is the highest byte of the requests: where it is 0 nobody asks. Else the network counts,
-// and takes the grant buffer for the room that it needs: all its bytes are written afterwards.
+// A cycle that no question refuses. `high` is the highest byte of the requests: where it is 0 nobody asks. Else the network counts.
 fn arbitrate(
     width: usize,
     picks: usize,
@@ -98,9 +100,37 @@ fn arbitrate(
     }
     let full = adder::code(picks);
     let end = width + 1;
+    if end <= FEW_COUNTS {
+        let mut counts = [0u8; FEW_COUNTS];
+        return count_round(full, head, requests, &mut counts[0..end], grants);
+    }
     let mut counts = [0u8; MAX_COUNTS];
+    count_round(full, head, requests, &mut counts[0..end], grants)
+}
+
+// Counts by the network, and grants by the counts. `counts` is room for one before each position of the order and one past the last.
+// The network takes the grant buffer for the room that it needs: all its bytes are written afterwards.
+fn count_round(
+    full: u8,
+    head: Head,
+    requests: &[u8],
+    counts: &mut [u8],
+    grants: &mut [u8],
+) -> Decision
+    requires { ⌜ Rule.isCode 8 full ≡ true ⌝ }
+    requires { ⌜ 1 ≤ ones full ⌝ }
+    requires { ⌜ start head < length (now requests) ⌝ }
+    requires { ⌜ length (now requests) ≤ maxWidth ⌝ }
+    requires { ⌜ Bits (now requests) ⌝ }
+    requires { ⌜ length (now counts) ≡ length (now requests) + 1 ⌝ }
+    requires { ⌜ length (now grants) ≡ length (now requests) ⌝ }
+    ensures { λ r. ⌜ r ≡ decision (length (now (requests .entry))) (ones full) head (requested (now (requests .entry))) ⌝ }
+    ensures { λ _. ⌜ now (grants .exit) ≡ RoundRobin.grants (length (now (requests .entry))) (ones full) head (requested (now (requests .entry))) ⌝ }
+{
+    let end = counts.len();
+    counts[0] = 0;
     network::run(full, head, requests, &mut counts[1..end], grants);
-    read_off(full, head, requests, &counts[0..end], grants)
+    read_off(full, head, requests, counts, grants)
 }
 
 // Reads the grants off the running codes, of which there is one before each position of the order and one past the last, and decides.
