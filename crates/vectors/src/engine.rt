@@ -139,7 +139,7 @@ pub(crate) fn call(
     match call {
         READ_ONE_HOT => OneHot(s).read(&read[0..asked]),
         WRITE_ONE_HOT => OneHot(s).write(&mut write[0..granted]),
-        READ_SNAPSHOT | READ_SHORT_SNAPSHOT => Snapshot::read(&read[0..asked]),
+        READ_SNAPSHOT => Snapshot::read(&read[0..asked]),
         WRITE_SNAPSHOT => Snapshot(s).write(&mut write[0..granted]),
         _ => cycle(
             e,
