@@ -1,4 +1,6 @@
 // The state of an arbiter, the answer of a call, the questions that calls ask, and what a cycle decides.
+#![tactic(auto)]
+
 pub mod question;
 pub mod refusal;
 pub mod search;
@@ -19,7 +21,7 @@ pub const MAX_WIDTH: usize = 1024;
 pub const MAX_PICKS: usize = 8;
 
 // 01's state: the number of stations, the most grants in one cycle, and the head.
-#[derive(Drop)]
+#[derive(Clone, Copy)]
 pub struct State {
     pub width: usize,
     pub picks: usize,
@@ -28,7 +30,7 @@ pub struct State {
 
 // What a call answers: the number of its refusal (0 when served), the place for refusals 8, 10 and 14, the count of grants (0 for
 // a call that is no cycle) and the state.
-#[derive(Drop)]
+#[derive(Clone, Copy)]
 pub struct Answer {
     pub number: usize,
     pub place: usize,
@@ -37,7 +39,7 @@ pub struct Answer {
 }
 
 // What a cycle decides, apart from any state: how many are granted, and the next head.
-#[derive(Drop)]
+#[derive(Clone, Copy)]
 pub struct Decision {
     pub count: usize,
     pub next: Head,

@@ -9,14 +9,14 @@ use crate::{MAX_PICKS, MAX_WIDTH, refusal};
 use rules::Head;
 
 // What a question says: the number and the place of its refusal, both 0 where it does not refuse.
-#[derive(Drop)]
+#[derive(Clone, Copy)]
 pub struct Verdict {
     pub number: usize,
     pub place: usize,
 }
 
 // What the questions say of a call that reads bits: the verdict, and the highest byte, 0 where the bytes were not read.
-#[derive(Drop)]
+#[derive(Clone, Copy)]
 pub struct Reading {
     pub verdict: Verdict,
     pub highest: u8,

@@ -1,4 +1,5 @@
 // The program `turns` between two open files.
+#![tactic(auto)]
 
 // Reads an input from one file, to its end or as far as `transcript` looks, and writes everything that the program prints for it
 // to the other.

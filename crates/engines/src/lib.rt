@@ -1,4 +1,6 @@
 // The plain scan, the tree, the thermometer arbiter and the Kogge-Stone arbiter behind one set of calls, which name the engine.
+#![tactic(auto)]
+
 ghost use Rattle.std.specs.Prelude.{◌≡◌};
 ghost use Rattle.rules.specs.declared.Head.TheVariants as Head;
 ghost use Rattle.engines.specs.Calls as Calls;
@@ -10,7 +12,7 @@ use thermometer::Thermometer;
 use tree::Tree;
 
 // The engines that grant by the round-robin rule.
-#[derive(Drop)]
+#[derive(Clone, Copy)]
 pub enum Engine {
     Scan,
     Tree,
@@ -19,7 +21,7 @@ pub enum Engine {
 }
 
 // A state that any of these engines may serve.
-#[derive(Drop)]
+#[derive(Clone, Copy)]
 pub struct Dispatch(pub State);
 
 impl Dispatch {

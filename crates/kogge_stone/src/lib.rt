@@ -1,5 +1,7 @@
 // The Kogge-Stone arbiter: the thermometer arbiter's counts by a network of joinings at distances 1, 2, 4 and so on, and the grants
 // read off these counts.
+#![tactic(auto)]
+
 mod network;
 
 ghost use Rattle.std.specs.Prelude.{true, ◌&&◌, ◌≡◌, ◌+◌, ◌≤◌, ◌<◌, eqb, ltb, length};
@@ -27,7 +29,7 @@ const MAX_COUNTS: usize = MAX_WIDTH + 1;
 const FEW_COUNTS: usize = 65;
 
 // A state that the Kogge-Stone arbiter serves.
-#[derive(Drop)]
+#[derive(Clone, Copy)]
 pub struct KoggeStone(pub State);
 
 impl KoggeStone {

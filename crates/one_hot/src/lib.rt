@@ -1,4 +1,6 @@
 // The one-hot image of the head, 01's wire image: a byte for each station, all 0 for none or a single 1 at the head.
+#![tactic(auto)]
+
 ghost use Rattle.std.specs.Prelude.{◌≡◌};
 ghost use Rattle.arbiter.specs.Questions as Questions;
 ghost use Rattle.one_hot.specs.Calls as Calls;
@@ -9,7 +11,7 @@ use arbiter::{Answer, State, clear, question, refusal};
 use rules::Head;
 
 // A state whose head is read from an image or written as one.
-#[derive(Drop)]
+#[derive(Clone, Copy)]
 pub struct OneHot(pub State);
 
 impl OneHot {

@@ -1,5 +1,7 @@
 // The packed scan: requests and grants eight stations to a byte, and one pick. It looks for the first station that asks a byte at
 // a time, by a table.
+#![tactic(auto)]
+
 mod lines;
 mod question;
 mod table;
@@ -19,7 +21,7 @@ use arbiter::{Answer, Decision, State, clear, decide, first_station, idle, refus
 use rules::Head;
 
 // A state that the packed scan serves.
-#[derive(Drop)]
+#[derive(Clone, Copy)]
 pub struct PackedScan(pub State);
 
 impl PackedScan {

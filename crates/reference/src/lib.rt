@@ -1,5 +1,7 @@
 // A model of the rules for tests, written apart from the engines and by other means: by each station's distance from the start of
 // the order, and by counting. Every function answers for any input.
+#![tactic(auto)]
+
 pub mod codes;
 mod tally;
 

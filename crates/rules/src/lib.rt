@@ -1,5 +1,7 @@
+#![tactic(auto)]
+
 // Where the priority order starts: 01's head, a station number or none. On the bus it is the token.
-#[derive(Drop)]
+#[derive(Clone, Copy)]
 pub enum Head {
     None,
     At(usize),

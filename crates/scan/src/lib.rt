@@ -1,4 +1,6 @@
 // The plain scan: it walks the stations in priority order from the head and grants those that ask, until the picks are used up.
+#![tactic(auto)]
+
 ghost use Rattle.std.specs.Prelude.{◌≡◌, ◌≤◌, ◌<◌, length, replicate};
 ghost use Rattle.rules.specs.RoundRobin as RoundRobin;
 ghost use Rattle.rules.specs.RoundRobin.{start};
@@ -12,11 +14,11 @@ use arbiter::{Answer, Decision, State, clear, decide, first_station, idle, quest
 use rules::Head;
 
 // A state that the plain scan serves.
-#[derive(Drop)]
+#[derive(Clone, Copy)]
 pub struct Scan(pub State);
 
 // How far a walk has come: how many it has granted, and whom it granted last.
-#[derive(Drop)]
+#[derive(Clone, Copy)]
 struct Walk {
     count: usize,
     last: usize,

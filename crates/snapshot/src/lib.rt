@@ -1,6 +1,8 @@
 // The snapshot of a state, 01's saved form, in the six bytes of 02, N4: the width less one in two bytes, the picks, the head or 0 in
 // two bytes, and the mark, 1 if there is a head. The low byte of two is the first. The short form, 01's own of four bytes, has one
 // byte for each of these; it is still read, but no longer written.
+#![tactic(auto)]
+
 ghost use Rattle.std.specs.Prelude.{[], ◌∷◌, ◌≡◌, ◌/◌, ◌%◌, ◌<◌, length};
 ghost use Rattle.arbiter.specs.Words as Words;
 ghost use Rattle.snapshot.specs.Calls as Calls;
@@ -16,11 +18,11 @@ pub const LENGTH: usize = 6;
 pub const SHORT_LENGTH: usize = 4;
 
 // A state that is saved as a snapshot.
-#[derive(Drop)]
+#[derive(Clone, Copy)]
 pub struct Snapshot(pub State);
 
 // What the bytes of a snapshot say: the width, the picks, the head's station or 0, and the mark.
-#[derive(Drop)]
+#[derive(Clone, Copy)]
 struct Fields {
     width: usize,
     picks: usize,

@@ -1,6 +1,8 @@
 // Writing text into a buffer. Each function writes its text into `out` from `at` on, as much of it as there is room for, and
 // answers the place after what it wrote. Every other byte stays as it was. So pieces can be written one after the other, each at
 // the place that the one before it answered.
+#![tactic(auto)]
+
 ghost use Rattle.std.specs.Prelude.{[], ◌∷◌, ◌≡◌};
 ghost use Rattle.text.specs.Characters as Characters;
 ghost use Rattle.text.specs.Output.{Put};

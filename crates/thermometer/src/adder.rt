@@ -9,7 +9,7 @@ use arbiter::{MAX_PICKS, question, refusal};
 
 // What the adder answers: the number of its refusal (0 when served), the place, which is always 0, and the code, 0 where it
 // refuses.
-#[derive(Drop)]
+#[derive(Clone, Copy)]
 pub struct Sum {
     pub number: usize,
     pub place: usize,

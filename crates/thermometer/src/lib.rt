@@ -1,5 +1,7 @@
 // The thermometer arbiter: it carries the saturated count of the asking stations along the order as a thermometer code, and
 // grants each station that asks and has fewer than the picks before it.
+#![tactic(auto)]
+
 pub mod adder;
 
 ghost use Rattle.std.specs.Prelude.{true, ◌≡◌, ◌≤◌, ◌<◌, length, replicate};
@@ -15,11 +17,11 @@ use arbiter::{Answer, Decision, State, clear, decide, first_station, idle, quest
 use rules::Head;
 
 // A state that the thermometer arbiter serves.
-#[derive(Drop)]
+#[derive(Clone, Copy)]
 pub struct Thermometer(pub State);
 
 // How far a walk has come: the code of how many it has counted, and whom it granted last.
-#[derive(Drop)]
+#[derive(Clone, Copy)]
 struct Walk {
     code: u8,
     last: usize,

@@ -1,5 +1,7 @@
 // The token bus: a cycle grants the first station that asks from the token on, and the token moves by one when the grant is
 // acknowledged.
+#![tactic(auto)]
+
 mod question;
 
 ghost use Rattle.std.specs.Prelude.{cond, ◌≡◌, ◌+◌, ◌%◌, ◌<◌, length, replicate};
@@ -14,7 +16,7 @@ use arbiter::{Answer, Decision, State, clear, first_station, past, refusal};
 use rules::Head;
 
 // A state that the token bus serves. Its head is the token.
-#[derive(Drop)]
+#[derive(Clone, Copy)]
 pub struct TokenBus(pub State);
 
 impl TokenBus {

@@ -14,7 +14,7 @@ use engines::{Dispatch, Engine};
 use token_bus::TokenBus;
 
 // How far a run has come: the state, the number of the next line, and the place of its text in the output.
-#[derive(Drop)]
+#[derive(Clone, Copy)]
 struct Progress {
     state: State,
     number: usize,

@@ -9,28 +9,28 @@ use engines::Engine;
 const MAX_DIGITS: usize = 4;
 
 // Which kind of arbiter runs: an engine of the round-robin rule, or the token bus.
-#[derive(Drop)]
+#[derive(Clone, Copy)]
 pub enum Kind {
     RoundRobin(Engine),
     TokenBus,
 }
 
 // What a letter names.
-#[derive(Drop)]
+#[derive(Clone, Copy)]
 pub enum Letter {
     Names(Kind),
     Unknown,
 }
 
 // What digits say.
-#[derive(Drop)]
+#[derive(Clone, Copy)]
 pub enum Number {
     Value(usize),
     Malformed,
 }
 
 // What a first line says.
-#[derive(Drop)]
+#[derive(Clone, Copy)]
 pub enum FirstLine {
     Opens(Kind, usize, usize),
     Unreadable,

@@ -1,4 +1,6 @@
 // The text of a run of the program `turns`: everything that it prints, for any input.
+#![tactic(auto)]
+
 mod cycles;
 mod first_line;
 mod lines;

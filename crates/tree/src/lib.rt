@@ -1,5 +1,7 @@
 // The tree arbiter: a tree of nodes over the stations, joined from the leaves up to the root, and a descent from the root to the
 // station that is granted.
+#![tactic(auto)]
+
 mod descent;
 mod nodes;
 mod question;
@@ -13,7 +15,7 @@ use arbiter::{Answer, Decision, State, clear, decide, idle, refusal};
 use rules::Head;
 
 // A state that the tree serves.
-#[derive(Drop)]
+#[derive(Clone, Copy)]
 pub struct Tree(pub State);
 
 impl Tree {

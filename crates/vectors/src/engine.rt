@@ -47,7 +47,7 @@ pub(crate) const ADD: usize = 7;
 pub(crate) const READ_SHORT_SNAPSHOT: usize = 8;
 
 // How many bytes of its buffers a call is given: of the one that it reads, of the one that it writes, and of the nodes.
-#[derive(Drop)]
+#[derive(Clone, Copy)]
 pub struct Lengths {
     pub read: usize,
     pub write: usize,

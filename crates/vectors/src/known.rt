@@ -49,7 +49,7 @@ fn number(e: usize, row: usize) -> usize {
 }
 
 // A cycle of the tree with 4 stations, one pick and a head: who asks, the node buffer, and the next head.
-#[derive(Drop)]
+#[derive(Clone, Copy)]
 struct Turn {
     head: usize,
     requests: [u8; 4],

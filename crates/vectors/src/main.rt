@@ -1,6 +1,8 @@
 // The test program. It runs the calls on known inputs, and against the model of the crate `reference`. For each group it prints
 // how many cases there are and how many differ, and above that line the numbers of the first of these. The module of a group says
 // how a number is taken apart.
+#![tactic(auto)]
+
 mod compare;
 mod conversions;
 mod engine;

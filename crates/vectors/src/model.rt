@@ -5,7 +5,7 @@ use arbiter::{Answer, State};
 use rules::Head;
 
 // What a cycle came to: whether it is as the model says, and the state it left.
-#[derive(Drop)]
+#[derive(Clone, Copy)]
 pub struct Cycle {
     pub same: bool,
     pub state: State,
@@ -78,7 +78,7 @@ fn same_grants(s: State, requests: &[u8], grants: &[u8]) -> bool {
 }
 
 // Stations that a node is over.
-#[derive(Drop)]
+#[derive(Clone, Copy)]
 struct Below {
     from: usize,
     size: usize,

@@ -12,7 +12,7 @@ const MOST: usize = 8192;
 // What the lengths of long inputs are said to be. The array that they stand in has 65,537 bytes.
 const LENGTHS: [usize; 4] = [65536, 65537, 65538, 18446744073709551615];
 
-#[derive(Drop)]
+#[derive(Clone, Copy)]
 pub enum Kind {
     // A text, and then the inputs that give it.
     Same,
@@ -28,7 +28,7 @@ pub enum Kind {
 }
 
 // What a case is made of: the pieces that hold its input and its text.
-#[derive(Drop)]
+#[derive(Clone, Copy)]
 struct Pieces {
     input: usize,
     text: usize,

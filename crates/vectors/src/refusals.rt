@@ -48,7 +48,7 @@ const KEPT: u8 = 7;
 pub(crate) const CASES: usize = 3 * 32768 * 6;
 
 // A set of faults, in one variant.
-#[derive(Drop)]
+#[derive(Clone, Copy)]
 struct Faults {
     set: usize,
     variant: usize,

@@ -5,14 +5,14 @@ use libc::STDOUT_FILENO;
 const LISTED: usize = 10;
 
 // What a number of a walk comes to: no case, or a case and whether all that it compares is the same.
-#[derive(Drop)]
+#[derive(Clone, Copy)]
 pub enum Outcome {
     Skipped,
     Ran(bool),
 }
 
 // How many cases a group has had, and how many of them differ.
-#[derive(Drop)]
+#[derive(Clone, Copy)]
 pub struct Tally {
     pub cases: usize,
     pub differ: usize,

@@ -5,7 +5,7 @@ use crate::{conversions, known, packed, pieces, refusals, running, runs, small, 
 use arbiter::State;
 use rules::Head;
 
-#[derive(Drop)]
+#[derive(Clone, Copy)]
 pub enum Group {
     Known,
     Node,
@@ -27,7 +27,7 @@ const LINES: usize = 9;
 
 // How far a walk has come, and what a group carries from case to case: a run its state and its generator's seed, a node table the
 // places that were met.
-#[derive(Drop)]
+#[derive(Clone, Copy)]
 pub struct Progress {
     pub tally: Tally,
     pub state: State,

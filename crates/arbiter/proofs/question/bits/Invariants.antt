@@ -1,0 +1,18 @@
+-- `bits` meets its contract: every byte that it passed is 0 or 1.
+-- Assumes nothing.
+use Prim.Native.Nat.{◌≤◌, ◌<◌, ◌-◌}
+use lib.Dec.{ltb}
+use mathlib.Core.Path.{sym, ap, ◌∙◌}
+use native.Mathlib.Omega.{arith}
+use lib.ListN.{length, get_or}
+use borrow.Author.Rules.{rules}
+use borrow.Author.Tests.{lt-ltb, le-ltb}
+use Rattle.arbiter.specs.Places.Laws.{Free, free_none, free_more, places_none, places_first}
+use Rattle.arbiter.specs.Questions.{refuse_at_first}
+use Rattle.arbiter.proofs.question.bits.Given as goal
+
+abbrev pub invariant-loop-i : goal.invariant-loop-i
+invariant-loop-i l = (l.from ≤ l.i) × Free (ltb 1) l.from l.i l.bytes
+
+abbrev pub decreases-loop-i : goal.decreases-loop-i
+decreases-loop-i l = length l.bytes - l.i

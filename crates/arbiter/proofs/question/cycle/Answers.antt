@@ -1,0 +1,17 @@
+-- `cycle` meets its contract: the questions in their order.
+-- Assumes nothing.
+use mathlib.Core.Path.{refl, ap, ◌∙◌}
+use borrow.Author.Rules.{rules}
+use Rattle.arbiter.specs.declared.question.Verdict.{Verdict}
+use Rattle.arbiter.specs.Questions as Questions
+use Rattle.arbiter.specs.Questions.Laws.{chained}
+use Rattle.arbiter.proofs.question.cycle.Goals as goal
+
+pub returns : goal.returns
+returns c =
+    let t = c in
+    let w = t in
+    let r = w in
+    let a = r.args in
+    let unread = chained t.then-2.ensures (chained t.then.ensures refl r.read_length-by_requests.ensures) w.write_length-by_grants.ensures in
+    c.read.ensures ∙ ap (λ (v : Verdict). Questions.read v a.requests.now) unread

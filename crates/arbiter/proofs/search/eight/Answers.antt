@@ -1,0 +1,11 @@
+-- `eight` meets its contract.
+-- Assumes nothing.
+use native.Mathlib.Omega.{arith}
+use borrow.Author.Rules.{rules}
+use Rattle.arbiter.specs.Words.Laws.{parts}
+use Rattle.arbiter.proofs.search.eight.Goals as goal
+
+pub returns : goal.returns
+returns c =
+    let b = c in
+    omega (arith, parts 4 4 b.args.bytes.now b.args.i (omega arith))

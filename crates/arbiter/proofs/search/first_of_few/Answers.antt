@@ -1,0 +1,22 @@
+-- `first_of_few` meets its contract: every byte that it passed is 0.
+-- Assumes nothing.
+use Prim.Native.Nat.{◌≤◌, ◌-◌}
+use lib.Dec.{ltb}
+use mathlib.Core.Path.{sym, ap}
+use native.Mathlib.Omega.{arith}
+use lib.ListN.{length}
+use Rattle.arbiter.specs.Places.{first}
+use Rattle.arbiter.specs.Places.Laws.{Free, free_none, free_more, places_none, places_first, is_nonzero, is_zero}
+use Rattle.arbiter.proofs.search.first_of_few.Goals as goal
+
+pub loop-i-init : goal.loop-i-init
+loop-i-init c = (omega arith, free_none)
+
+pub returns-then-bytes-i-ne0 : goal.returns-then-bytes-i-ne0
+returns-then-bytes-i-ne0 c = sym (ap first (places_first c.loop-i.invariant.1 c.loop-i.invariant.0 (omega arith) (is_nonzero c.if-bytes-i-ne0.true)))
+
+pub loop-i-preserved : goal.loop-i-preserved
+loop-i-preserved c = (omega arith, free_more c.loop-i.invariant.1 (is_zero c.if-bytes-i-ne0.false))
+
+pub returns : goal.returns
+returns c = sym (ap first (places_none c.loop-i.invariant.1 c.loop-i-test.false))
