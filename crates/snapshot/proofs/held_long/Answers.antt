@@ -1,0 +1,13 @@
+-- `held_long` meets its contract.
+-- Assumes nothing.
+use borrow.Author.Rules.{rules}
+use Rattle.snapshot.specs.Calls.{long_fields}
+use Rattle.snapshot.proofs.held_long.Goals as goal
+
+pub returns : goal.returns
+unfolding long_fields
+returns c =
+    let station = c in
+    let picks = station in
+    let width = picks in
+    rw (width.word-width.ensures.value, picks.wide-picks.ensures.0, station.word-station.ensures.value, c.wide-mark.ensures.0)
