@@ -3,15 +3,16 @@
 -- Assumes nothing.
 use Rattle.std.specs.Prelude.{Bool, true, false, ◌&&◌}
 use Rattle.std.proofs.Math.Bool as Bool
-use mir.Syntax.{Name, Rv, rv_opd, op2, op1, addr_of, aggregate, repeat}
-use mir.Syntax.{Body, skip, seq, assign, block, loop, cond, switch, exit, return, call, Arms, arm, default, no_default}
+use mir.Syntax.{Callee, Rv, rv_opd, op2, op1, addr_of, aggregate, repeat, repeat_p, select}
+use mir.Syntax.{Body, skip, seq, assign, block, loop, cond, switch, exit, return, call, unreachable, call_v, lend_static, Arms, arm, default, no_default}
 mod Known
 
 -- each but `end` has what comes after it last
 pub data Trace : Type 0 where
   end : Trace
   computes : Trace → Trace
-  calls : Name → Trace → Trace
+  calls : Callee → Trace → Trace
+  calls_pointer : Trace → Trace
   leaves : Trace → Trace
   either : Trace → Trace → Trace → Trace
   repeats : Trace → Trace → Trace
@@ -20,6 +21,7 @@ abbrev silent : Trace → Bool
 silent end = true
 silent (computes t) = false
 silent (calls f t) = false
+silent (calls_pointer t) = false
 silent (leaves t) = false
 silent (either a b t) = false
 silent (repeats a t) = false
@@ -36,6 +38,8 @@ value (op1 op x) t = computes t
 value (addr_of p) t = t
 value (aggregate xs) t = t
 value (repeat x n) t = t
+value (repeat_p x n) t = t
+value (select x y z) t = computes t
 
 abbrev mutual
   -- a piece of code, and what comes after it
@@ -50,6 +54,9 @@ abbrev mutual
   trace (exit k) t = leaves t
   trace return t = leaves t
   trace (call f given to) t = calls f t
+  trace unreachable t = leaves t
+  trace (call_v f sig given to) t = calls_pointer t
+  trace (lend_static to τ k) t = computes t
 
   arms_of : Arms → Trace
   arms_of (arm keys a arms) = branches (trace a end) (arms_of arms) end

@@ -11,8 +11,7 @@ use Rattle.arbiter.specs.Questions as Questions
 use Rattle.arbiter.specs.Questions.Laws.{then_served, unless_served}
 use Rattle.arbiter.specs.Answers.Laws.{if_passed_lem, if_refused}
 use Rattle.thermometer.specs.Adder as Adder
-use Rattle.thermometer.proofs.adder.add.Statement.{statement}
-use Rattle.thermometer.proofs.adder.add.Tie as tie
+use Rattle.thermometer.proofs.adder.add.Goals as goal
 
 -- once question 3 has passed the picks are at most 8
 few : {r : Verdict} (m a b : ℕ) → r ≡ Adder.questions m a b → r.number ≡ 0 → m ≤ 8
@@ -20,18 +19,12 @@ few m a b e z =
     let three = then_served (Questions.pick_count m) (Questions.codes m a b) (ap (λ (v : Verdict). v.number) (sym e) ∙ z) in
     leb-true m 8 (Lists.both (leb 1 m) (leb m 8) (unless_served _ 2 0 three.0)).1
 
-addable-requires : tie.Need-addable-requires
-addable-requires c κs = search rules
+pub returns-then-verdict-ne-SERVED : goal.returns-then-verdict-ne-SERVED
+returns-then-verdict-ne-SERVED c =
+    let v = c.addable-verdict.ensures in if_refused _ v c.if-verdict-ne-SERVED.true (rw v)
 
-returns : tie.Need-returns
-returns c =
-    let v = c.before.before.addable.ensures in if_refused _ v c.if1.true (rw v)
+pub join-requires : goal.join-requires
+join-requires c = few _ _ _ c.addable-verdict.ensures c.if-verdict-ne-SERVED.false
 
-join-requires : tie.Need-join-requires
-join-requires c κs = few _ _ _ c.before.before.addable.ensures c.if1.false
-
-returns-2 : tie.Need-returns-2
-returns-2 c = if_passed_lem _ c.before.before.before.addable.ensures c.before.if1.false (rw c.join.ensures)
-
-pub add_spec : {M : Type 1} → statement M
-add_spec = tie.close (tie.spec addable-requires returns join-requires returns-2)
+pub returns : goal.returns
+returns c = if_passed_lem _ c.addable-verdict.ensures c.if-verdict-ne-SERVED.false (rw c.join.ensures)

@@ -1,0 +1,63 @@
+-- `walk_run` meets its contract: up to the station found last the run is done.
+-- Assumes nothing.
+use Prim.Native.Nat.{◌≤◌, ◌-◌}
+use mathlib.Core.Path.{◌≡◌, sym, ◌∙◌}
+use native.Mathlib.Omega.{arith}
+use lib.ListN.{length, length-set, length-take}
+use borrow.Author.Rules.{rules}
+use Rattle.rules.specs.Walk.{Ran}
+use Rattle.rules.specs.Walk.Laws as Walk
+use Rattle.arbiter.specs.Decisions.{requested}
+use Rattle.scan.proofs.Searches as Searches
+use Rattle.scan.proofs.walk_run.Goals as goal
+
+pub slice_bounds-run-end : goal.slice_bounds-run-end
+slice_bounds-run-end c = simp length-take (omega arith)
+
+pub loop-count-init : goal.loop-count-init
+loop-count-init c = (omega arith, omega arith, omega arith, omega arith, Walk.begin _ _ _ _ _ _ (omega arith))
+
+pub returns-in_default : goal.returns-in_default
+returns-in_default c =
+    let f = c in
+    let l = f.loop-count in
+    let a = f.args in
+    let none = Searches.nobody a.requests.now l.i a.to (omega arith) (sym f.first_one-found.ensures ∙ c.in_default.is) in
+    Walk.quiet _ _ _ _ _ _ l.i l.invariant.0 _ _ _ l.invariant.4 a.to l.invariant.1 none
+
+-- the station found
+station : (c : goal.In-At)
+    → let f = c in
+    let l = f.loop-count in
+    let b = f in
+    Searches.Found b.args.requests.now l.i b.args.to (omega (arith, b.requires)) c.in-At.station
+station c =
+    let f = c in
+    let l = f.loop-count in
+    let b = f in
+    Searches.found b.args.requests.now l.i b.args.to (omega (arith, b.requires)) _ (sym f.first_one-found.ensures ∙ c.in-At.is)
+
+pub bounds-grants-station : goal.bounds-grants-station
+bounds-grants-station c = let w = station c in omega (arith, w.high)
+
+pub overflow_add-i : goal.overflow_add-i
+overflow_add-i c = let w = station c in omega (arith, w.high)
+
+pub loop-count-preserved : goal.loop-count-preserved
+loop-count-preserved c =
+    let w = station c in
+    let l = c.loop-count in
+    let r = Walk.quiet _ _ _ _ _ _ l.i l.invariant.0 _ _ _ l.invariant.4 _ w.low w.earlier in (
+      omega (arith, w.low),
+      omega (arith, w.high),
+      omega arith,
+      simp length-set (omega arith),
+      Walk.grant _ _ _ _ _ _ _ (omega (arith, w.low)) _ _ _ r w.asks (omega arith) (omega (arith, w.high)),
+    )
+
+pub returns : goal.returns
+returns c =
+    let l = c.loop-count in
+    let a = c.args in
+    let used-up : l.count ≡ a.picks = omega arith in
+    Walk.full _ _ _ _ _ _ l.i l.invariant.0 _ _ _ l.invariant.4 a.to l.invariant.1 used-up

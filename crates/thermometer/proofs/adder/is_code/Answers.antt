@@ -1,0 +1,14 @@
+-- `is_code` meets its contract.
+-- Assumes nothing.
+use Prim.Native.Nat.{◌-◌}
+use native.Mathlib.Omega.{arith}
+use lib.Count.{trailing_le}
+use borrow.Author.Rules.{rules}
+use Rattle.thermometer.proofs.Codes.{trailing_code}
+use Rattle.thermometer.proofs.adder.is_code.Goals as goal
+
+pub overflow_cast-trailing_ones : goal.overflow_cast-trailing_ones
+overflow_cast-trailing_ones c = omega (arith, trailing_le 8 (255 - c.args.byte))
+
+pub returns : goal.returns
+returns c = let b = c in trailing_code b.args.picks b.args.byte _ (omega (arith, b)) c.count-ones.ensures
