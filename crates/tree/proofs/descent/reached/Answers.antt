@@ -1,0 +1,32 @@
+-- `reached` meets its contract: each node that it comes to is on the way down.
+-- Assumes nothing.
+use Prim.Native.Nat.{◌-◌, ◌*◌}
+use native.Mathlib.Omega.{arith}
+use Rattle.rules.specs.Tree.Laws.{OnWay, way_begins, way_goes_on, way_ends, child_low}
+use Rattle.tree.proofs.descent.reached.Goals as goal
+
+pub loop-u-init : goal.loop-u-init
+loop-u-init c = way_begins _ _ c.requires.le_width
+
+pub child-u-requires : goal.child-u-requires
+child-u-requires c =
+    let b = c in
+    record {
+      u_in_bounds = omega arith;
+      u_bound = b.requires.values _ (omega arith);
+      u_bound_2 = b.requires.values _ (omega arith);
+    }
+
+pub loop-u-smaller : goal.loop-u-smaller
+loop-u-smaller c =
+    let l = c.loop-u in
+    let b = c in
+    omega (arith, c.child-u.ensures, child_low b.args.nodes.now l.u, l.invariant.low)
+
+pub loop-u-preserved : goal.loop-u-preserved
+loop-u-preserved c =
+    let l = c.loop-u in
+    rw c.child-u.ensures (way_goes_on _ _ l.u c.loop-u-test.true l.invariant)
+
+pub returns : goal.returns
+returns c = way_ends _ _ _ c.loop-u-test.false c.loop-u.invariant

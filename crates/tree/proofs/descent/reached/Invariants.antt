@@ -1,0 +1,12 @@
+-- `reached` meets its contract: each node that it comes to is on the way down.
+-- Assumes nothing.
+use Prim.Native.Nat.{◌-◌, ◌*◌}
+use native.Mathlib.Omega.{arith}
+use Rattle.rules.specs.Tree.Laws.{OnWay, way_begins, way_goes_on, way_ends, child_low}
+use Rattle.tree.proofs.descent.reached.Given as goal
+
+abbrev pub invariant-loop-u : goal.invariant-loop-u
+invariant-loop-u l = OnWay l.width l.nodes l.u
+
+abbrev pub decreases-loop-u : goal.decreases-loop-u
+decreases-loop-u l = 2 * l.width - l.u
