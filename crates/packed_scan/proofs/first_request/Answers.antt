@@ -11,9 +11,8 @@ use Rattle.packed_scan.proofs.first_request.Goals as goal
 pub returns-then-line-lt8 : goal.returns-then-line-lt8
 returns-then-line-lt8 c =
     let within : (let a = c.args in a.first / 8 < length a.requests.now) = omega (arith, c.requires.first_bound) in
-    let e = c in
-    let a = e.args in
-    let high = set_home a.requests.now a.first e.entry-line.result within e.entry-line.ensures c.if-line-lt8.true in
+    let a = c.args in
+    let high = set_home a.requests.now a.first c.entry-line.result within c.entry-line.ensures c.if-line-lt8.true in
     round_high a.requests.now a.first _ (sym high)
 
 pub returns-then-highest-eq0 : goal.returns-then-highest-eq0
@@ -29,37 +28,33 @@ next_byte-found-requires c =
 pub returns-in_default : goal.returns-in_default
 returns-in_default c =
     let within : (let a = c.args in a.first / 8 < length a.requests.now) = omega (arith, c.requires.first_bound) in
-    let n = c in
-    let e = n in
-    let a = e.args in
+    let a = c.args in
     round_quiet a.requests.now a.first
-    (next_none a.requests.now (a.first / 8) within (sym n.next_byte-found.ensures ∙ c.in_default.is))
+    (next_none a.requests.now (a.first / 8) within (sym c.next_byte-found.ensures ∙ c.in_default.is))
 
 pub overflow_mul-result-2 : goal.overflow_mul-result-2
 overflow_mul-result-2 c =
-    let next : (let a = c.args in Next a.requests.now (a.first / 8) c.in-At.byte) = let within : (let a = c.args in a.first / 8 < length a.requests.now) = omega (arith, c.requires.first_bound) in (let n = c in let e = n in let a = e.args in next_some a.requests.now (a.first / 8) within _ (sym n.next_byte-found.ensures ∙ c.in-At.is)) in
-    let k = c in
-    omega (arith, next.within, k.requires.requests_len_bound)
+    let within : (let a = c.args in a.first / 8 < length a.requests.now) = omega (arith, c.requires.first_bound) in
+    let next : (let a = c.args in Next a.requests.now (a.first / 8) c.in-At.byte) = (let a = c.args in next_some a.requests.now (a.first / 8) within _ (sym c.next_byte-found.ensures ∙ c.in-At.is)) in
+    omega (arith, next.within, c.requires.requests_len_bound)
 
 pub bounds-requests-byte : goal.bounds-requests-byte
 bounds-requests-byte c =
-    let next : (let a = c.args in Next a.requests.now (a.first / 8) c.in-At.byte) = let within : (let a = c.args in a.first / 8 < length a.requests.now) = omega (arith, c.requires.first_bound) in (let n = c in let e = n in let a = e.args in next_some a.requests.now (a.first / 8) within _ (sym n.next_byte-found.ensures ∙ c.in-At.is)) in
+    let within : (let a = c.args in a.first / 8 < length a.requests.now) = omega (arith, c.requires.first_bound) in
+    let next : (let a = c.args in Next a.requests.now (a.first / 8) c.in-At.byte) = (let a = c.args in next_some a.requests.now (a.first / 8) within _ (sym c.next_byte-found.ensures ∙ c.in-At.is)) in
     next.within
 
 pub overflow_add-result-2 : goal.overflow_add-result-2
 overflow_add-result-2 c =
-    let next : (let a = c.args in Next a.requests.now (a.first / 8) c.in-At.byte) = let within : (let a = c.args in a.first / 8 < length a.requests.now) = omega (arith, c.requires.first_bound) in (let n = c in let e = n in let a = e.args in next_some a.requests.now (a.first / 8) within _ (sym n.next_byte-found.ensures ∙ c.in-At.is)) in
-    let below : c.entry-line.result < 8 = let next : (let a = c.args in Next a.requests.now (a.first / 8) c.in-At.byte) = let within : (let a = c.args in a.first / 8 < length a.requests.now) = omega (arith, c.requires.first_bound) in (let n = c in let e = n in let a = e.args in next_some a.requests.now (a.first / 8) within _ (sym n.next_byte-found.ensures ∙ c.in-At.is)) in (let k = c in some_entry _ _ next.some (omega (arith, c.type_inv.requests k.in-At.byte)) c.entry-line.ensures) in
-    let k = c in
-    omega (arith, below, next.within, k.requires.requests_len_bound)
+    let within : (let a = c.args in a.first / 8 < length a.requests.now) = omega (arith, c.requires.first_bound) in
+    let next : (let a = c.args in Next a.requests.now (a.first / 8) c.in-At.byte) = (let a = c.args in next_some a.requests.now (a.first / 8) within _ (sym c.next_byte-found.ensures ∙ c.in-At.is)) in
+    let below : c.entry.result < 8 = (some_entry _ _ next.some (omega (arith, c.type_inv.requests c.in-At.byte)) c.entry.ensures) in
+    omega (arith, below, next.within, c.requires.requests_len_bound)
 
 pub returns : goal.returns
 returns c =
     let within : (let a = c.args in a.first / 8 < length a.requests.now) = omega (arith, c.requires.first_bound) in
-    let next : (let a = c.args in Next a.requests.now (a.first / 8) c.in-At.byte) = let within : (let a = c.args in a.first / 8 < length a.requests.now) = omega (arith, c.requires.first_bound) in (let n = c in let e = n in let a = e.args in next_some a.requests.now (a.first / 8) within _ (sym n.next_byte-found.ensures ∙ c.in-At.is)) in
-    let below : c.entry-line.result < 8 = let next : (let a = c.args in Next a.requests.now (a.first / 8) c.in-At.byte) = let within : (let a = c.args in a.first / 8 < length a.requests.now) = omega (arith, c.requires.first_bound) in (let n = c in let e = n in let a = e.args in next_some a.requests.now (a.first / 8) within _ (sym n.next_byte-found.ensures ∙ c.in-At.is)) in (let k = c in some_entry _ _ next.some (omega (arith, c.type_inv.requests k.in-At.byte)) c.entry-line.ensures) in
-    let k = c in
-    let l = k in
-    let e = l in
-    let a = e.args in
-    round_next a.requests.now a.first e.entry-line.result _ _ within e.entry-line.ensures l.if-line-lt8.false next c.entry.ensures below
+    let next : (let a = c.args in Next a.requests.now (a.first / 8) c.in-At.byte) = (let a = c.args in next_some a.requests.now (a.first / 8) within _ (sym c.next_byte-found.ensures ∙ c.in-At.is)) in
+    let below : c.entry.result < 8 = (some_entry _ _ next.some (omega (arith, c.type_inv.requests c.in-At.byte)) c.entry.ensures) in
+    let a = c.args in
+    round_next a.requests.now a.first c.entry-line.result _ _ within c.entry-line.ensures c.if-line-lt8.false next c.entry.ensures below

@@ -14,7 +14,7 @@ use Rattle.packed_scan.specs.Lines.Laws.{none_decides, none_grants, one_below, o
 use Rattle.packed_scan.proofs.grant.Goals as goal
 
 pub first_request-found-requires : goal.first_request-found-requires
-first_request-found-requires c = -- BY HAND: several requires ['first_bound', 'requests_len_bound']
+first_request-found-requires c =
     let b = c in
     omega (arith, c.first_station-first.ensures, b.requires.head_bound, b.requires.packed.long, b.requires.packed.most)
 
