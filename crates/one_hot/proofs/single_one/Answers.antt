@@ -14,8 +14,7 @@ use Rattle.one_hot.proofs.single_one.Goals as goal
 
 pub returns-in_default : goal.returns-in_default
 returns-in_default c =
-    let a = c in
-    c.refuse_unless.ensures ∙ sym (one_hot_none a.args.image.now (sym a.first_one-first.ensures ∙ c.in_default.is))
+    c.refuse_unless.ensures ∙ sym (one_hot_none c.args.image.now (sym c.first_one-first.ensures ∙ c.in_default.is))
 
 pub overflow_add-one : goal.overflow_add-one
 overflow_add-one c =
@@ -26,17 +25,15 @@ overflow_add-one c =
 pub returns-in-None : goal.returns-in-None
 returns-in-None c =
     let at_first : first (ones 0 c.args.image.now) ≡ At c.in-At.one = sym c.first_one-first.ensures ∙ c.in-At.is in
-    let b = c in
-    let image = b.args.image.now in
-    let one = b.in-At.one in
+    let image = c.args.image.now in
+    let one = c.in-At.one in
     c.refuse_unless-in-None.ensures
-    ∙ sym (one_hot_rest image one at_first ∙ refuse_none 10 (ones (one + 1) image) (sym b.first_one-second.ensures ∙ c.in-None.is))
+    ∙ sym (one_hot_rest image one at_first ∙ refuse_none 10 (ones (one + 1) image) (sym c.first_one-second.ensures ∙ c.in-None.is))
 
 pub returns-in-At-second : goal.returns-in-At-second
 returns-in-At-second c =
     let at_first : first (ones 0 c.args.image.now) ≡ At c.in-At.one = sym c.first_one-first.ensures ∙ c.in-At.is in
-    let b = c in
-    let image = b.args.image.now in
-    let one = b.in-At.one in
+    let image = c.args.image.now in
+    let one = c.in-At.one in
     c.refuse_unless-in-At-second.ensures
-    ∙ sym (one_hot_rest image one at_first ∙ refuse_at 10 _ (ones (one + 1) image) (sym b.first_one-second.ensures ∙ c.in-At-second.is))
+    ∙ sym (one_hot_rest image one at_first ∙ refuse_at 10 _ (ones (one + 1) image) (sym c.first_one-second.ensures ∙ c.in-At-second.is))

@@ -12,39 +12,32 @@ use Rattle.scan.proofs.walk_round.Goals as goal
 
 pub returns-then-high-eq0 : goal.returns-then-high-eq0
 returns-then-high-eq0 c =
-    let b = c in
-    let a = b.args in
-    let quiet : highest a.requests.now ≡ 0 = sym b.requires.high_value ∙ c.if-high-eq0.true in
+    let a = c.args in
+    let quiet : highest a.requests.now ≡ 0 = sym c.requires.high_value ∙ c.if-high-eq0.true in
     record {
       value = c.idle.ensures ∙ quiet_decides a.width a.picks a.head a.requests.now quiet;
-      grants_after = b.requires.grants_value ∙ quiet_grants a.width a.picks a.head a.requests.now quiet;
+      grants_after = c.requires.grants_value ∙ quiet_grants a.width a.picks a.head a.requests.now quiet;
     }
 
 pub walk_run-half-requires : goal.walk_run-half-requires
 walk_run-half-requires c =
-    let b = c in
-    omega (arith, c.first_station-first.ensures, ap length b.requires.grants_value, length-replicate {A = ℕ} b.args.width 0)
+    omega (arith, c.first_station-first.ensures, ap length c.requires.grants_value, length-replicate {A = ℕ} c.args.width 0)
 
 pub walk_run-walk-requires : goal.walk_run-walk-requires
 walk_run-walk-requires c =
-    let r = c in
-    let b = r in
     omega (
       arith,
-      r.first_station-first.ensures,
-      r.walk_run-half.auto.grants,
-      r.walk_run-half.ensures.counted,
-      ap length b.requires.grants_value,
-      length-replicate {A = ℕ} b.args.width 0,
+      c.first_station-first.ensures,
+      c.walk_run-half.auto.grants,
+      c.walk_run-half.ensures.counted,
+      ap length c.requires.grants_value,
+      length-replicate {A = ℕ} c.args.width 0,
     )
 
 pub returns : goal.returns
 returns c =
-    let two = c in
-    let one = two in
-    let b = one in
-    let e = one.first_station-first.ensures in
-    let w = Walk.round _ _ _ _ b.requires.head_bound _ _ _ _ _ _ (Walk.told e refl b.requires.grants_value one.walk_run-half.ensures) (Walk.told refl e refl two.walk_run-walk.ensures) in
+    let e = c.first_station-first.ensures in
+    let w = Walk.round _ _ _ _ c.requires.head_bound _ _ _ _ _ _ (Walk.told e refl c.requires.grants_value c.walk_run-half.ensures) (Walk.told refl e refl c.walk_run-walk.ensures) in
     record {
       value = c.decide.ensures ∙ walked _ _ _ _ w;
       grants_after = w.bytes;

@@ -19,23 +19,18 @@ loop-count-init c = (omega arith, omega arith, omega arith, omega arith, Walk.be
 
 pub returns-in_default : goal.returns-in_default
 returns-in_default c =
-    let f = c in
-    let l = f.loop-count in
-    let a = f.args in
-    let none = Searches.nobody a.requests.now l.i a.to (omega arith) (sym f.first_one-found.ensures ∙ c.in_default.is) in
+    let l = c.loop-count in
+    let a = c.args in
+    let none = Searches.nobody a.requests.now l.i a.to (omega arith) (sym c.first_one-found.ensures ∙ c.in_default.is) in
     Walk.quiet _ _ _ _ _ _ l.i l.invariant.0 _ _ _ l.invariant.4 a.to l.invariant.1 none
 
 -- the station found
 station : (c : goal.In-At)
-    → let f = c in
-    let l = f.loop-count in
-    let b = f in
-    Searches.Found b.args.requests.now l.i b.args.to (omega (arith, b.requires)) c.in-At.station
+    → let l = c.loop-count in
+    Searches.Found c.args.requests.now l.i c.args.to (omega (arith, c.requires)) c.in-At.station
 station c =
-    let f = c in
-    let l = f.loop-count in
-    let b = f in
-    Searches.found b.args.requests.now l.i b.args.to (omega (arith, b.requires)) _ (sym f.first_one-found.ensures ∙ c.in-At.is)
+    let l = c.loop-count in
+    Searches.found c.args.requests.now l.i c.args.to (omega (arith, c.requires)) _ (sym c.first_one-found.ensures ∙ c.in-At.is)
 
 pub bounds-grants-station : goal.bounds-grants-station
 bounds-grants-station c = let w = station c in omega (arith, w.high)

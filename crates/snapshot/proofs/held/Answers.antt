@@ -13,5 +13,4 @@ held_long-requires c = long_size _ c.requires c.if-snapshot-eq-SHORT_LENGTH.fals
 
 pub returns : goal.returns
 returns c =
-    let e = c in
-    c.held_long.ensures ∙ sym (fields_long _ (long_size _ e.requires e.if-snapshot-eq-SHORT_LENGTH.false))
+    c.held_long.ensures ∙ sym (fields_long _ (long_size _ c.requires c.if-snapshot-eq-SHORT_LENGTH.false))

@@ -7,7 +7,4 @@ use Rattle.snapshot.proofs.held_long.Goals as goal
 pub returns : goal.returns
 unfolding long_fields
 returns c =
-    let station = c in
-    let picks = station in
-    let width = picks in
-    rw (width.word-width.ensures.value, picks.wide-picks.ensures.0, station.word-station.ensures.value, c.wide-mark.ensures.0)
+    rw (c.word-width.ensures.value, c.wide-picks.ensures.0, c.word-station.ensures.value, c.wide-mark.ensures.0)

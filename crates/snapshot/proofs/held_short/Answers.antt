@@ -7,7 +7,4 @@ use Rattle.snapshot.proofs.held_short.Goals as goal
 pub returns : goal.returns
 unfolding short_fields
 returns c =
-    let third = c in
-    let second = third in
-    let first = second in
-    rw (first.wide-width.ensures.0, second.wide-picks.ensures.0, third.wide-station.ensures.0, c.wide-mark.ensures.0)
+    rw (c.wide-width.ensures.0, c.wide-picks.ensures.0, c.wide-station.ensures.0, c.wide-mark.ensures.0)

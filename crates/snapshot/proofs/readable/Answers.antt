@@ -26,9 +26,6 @@ held-requires c =
 pub returns : goal.returns
 returns c =
     let fits : (read_length (length c.args.snapshot.now)).number ≡ 0 = ap (λ (v : Verdict). v.number) (sym c.refuse_unless-by_length.ensures) ∙ c.if-by_length-ne-SERVED.false in
-    let h = c in
-    let e = h in
-    let known = e in
-    passed e.refuse_unless-by_length.ensures e.if-by_length-ne-SERVED.false
-    (chained c.then.ensures h.bits-by_mark.ensures (c.allowed-by_fields.ensures ∙ ap allowed h.held.ensures)
-    ∙ asked known.args.snapshot.now (omega (arith, c.type_inv.snapshot 0)) fits)
+    passed c.refuse_unless-by_length.ensures c.if-by_length-ne-SERVED.false
+    (chained c.then.ensures c.bits-by_mark.ensures (c.allowed-by_fields.ensures ∙ ap allowed c.held.ensures)
+    ∙ asked c.args.snapshot.now (omega (arith, c.type_inv.snapshot 0)) fits)

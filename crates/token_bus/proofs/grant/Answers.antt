@@ -16,30 +16,25 @@ use Rattle.token_bus.proofs.grant.Goals as goal
 pub returns-in_default : goal.returns-in_default
 returns-in_default c =
     let none : (let a = c.args in first (Bus.granted a.width a.token (requested a.requests.now)) ≡ None) = sym c.first_request-first.ensures ∙ c.in_default.is in
-    let e = c in
-    let b = e in
-    let a = b.args in
+    let a = c.args in
     record {
-      value = rw c.pass-kept.ensures (idle_decides a.width a.token a.requests.now b.requires.token_lt_width a.acknowledged none);
-      grants_after = b.requires.grants_value ∙ idle_grants a.width a.token a.requests.now b.requires.token_lt_width none;
+      value = rw c.pass-kept.ensures (idle_decides a.width a.token a.requests.now c.requires.token_lt_width a.acknowledged none);
+      grants_after = c.requires.grants_value ∙ idle_grants a.width a.token a.requests.now c.requires.token_lt_width none;
     }
 
 pub bounds-grants-station : goal.bounds-grants-station
 bounds-grants-station c =
-    let below : (let a = c.args in c.in-At.station < a.width) = let some : (let a = c.args in first (Bus.granted a.width a.token (requested a.requests.now)) ≡ At c.in-At.station) = sym c.first_request-first.ensures ∙ c.in-At.is in (let b = c in granted_below b.args.width b.args.token b.args.requests.now b.requires.token_lt_width _ some) in
-    let k = c in
-    let b = k in
-    omega (arith, below, ap length b.requires.grants_value, length-replicate {A = ℕ} b.args.width 0)
+    let some : (let a = c.args in first (Bus.granted a.width a.token (requested a.requests.now)) ≡ At c.in-At.station) = sym c.first_request-first.ensures ∙ c.in-At.is in
+    let below : (let a = c.args in c.in-At.station < a.width) = (granted_below c.args.width c.args.token c.args.requests.now c.requires.token_lt_width _ some) in
+    omega (arith, below, ap length c.requires.grants_value, length-replicate {A = ℕ} c.args.width 0)
 
 pub returns : goal.returns
 returns c =
     let some : (let a = c.args in first (Bus.granted a.width a.token (requested a.requests.now)) ≡ At c.in-At.station) = sym c.first_request-first.ensures ∙ c.in-At.is in
-    let k = c in
-    let b = k in
-    let a = b.args in
-    let w = k.in-At.station in
+    let a = c.args in
+    let w = c.in-At.station in
     record {
-      value = rw c.pass-next.ensures (granted_decides a.width a.token a.requests.now b.requires.token_lt_width w some a.acknowledged);
-      grants_after = ap (λ (l : List ℕ). set l w 1) b.requires.grants_value
-          ∙ granted_grants a.width a.token a.requests.now b.requires.token_lt_width w some;
+      value = rw c.pass-next.ensures (granted_decides a.width a.token a.requests.now c.requires.token_lt_width w some a.acknowledged);
+      grants_after = ap (λ (l : List ℕ). set l w 1) c.requires.grants_value
+          ∙ granted_grants a.width a.token a.requests.now c.requires.token_lt_width w some;
     }

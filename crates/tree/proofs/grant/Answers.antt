@@ -13,44 +13,37 @@ use Rattle.tree.proofs.grant.Goals as goal
 
 pub overflow_add-leaf : goal.overflow_add-leaf
 overflow_add-leaf c =
-    let below : (let a = c.args in c.reached-station.result < a.width) = (let b = c in omega (arith, c.reached-station.ensures, reached_station b.args.width b.args.nodes.now b.requires.le_width)) in
+    let below : (let a = c.args in c.reached-station.result < a.width) = (omega (arith, c.reached-station.ensures, reached_station c.args.width c.args.nodes.now c.requires.le_width)) in
     omega (arith, below, c)
 
 pub bounds-nodes-leaf : goal.bounds-nodes-leaf
 bounds-nodes-leaf c =
-    let below : (let a = c.args in c.reached-station.result < a.width) = (let b = c in omega (arith, c.reached-station.ensures, reached_station b.args.width b.args.nodes.now b.requires.le_width)) in
+    let below : (let a = c.args in c.reached-station.result < a.width) = (omega (arith, c.reached-station.ensures, reached_station c.args.width c.args.nodes.now c.requires.le_width)) in
     omega (arith, below)
 
 pub bounds-grants-station : goal.bounds-grants-station
 bounds-grants-station c =
-    let below : (let a = c.args in c.reached-station.result < a.width) = (let b = c in omega (arith, c.reached-station.ensures, reached_station b.args.width b.args.nodes.now b.requires.le_width)) in
-    let k = c in
-    let b = k in
-    omega (arith, below, ap length b.requires.grants_value, length-replicate {A = ℕ} b.args.width 0)
+    let below : (let a = c.args in c.reached-station.result < a.width) = (omega (arith, c.reached-station.ensures, reached_station c.args.width c.args.nodes.now c.requires.le_width)) in
+    omega (arith, below, ap length c.requires.grants_value, length-replicate {A = ℕ} c.args.width 0)
 
 pub returns-then-s0 : goal.returns-then-s0
 returns-then-s0 c =
-    let below : (let a = c.args in c.reached-station.result < a.width) = (let b = c in omega (arith, c.reached-station.ensures, reached_station b.args.width b.args.nodes.now b.requires.le_width)) in
-    let asks : (let k = c in let a = k.args in c.s0.result ≡ s0 (get_or a.nodes.now (a.width + reached a.width a.nodes.now) 0)) = (let k = c in let a = k.args in c.s0.ensures ∙ ap (λ (w : ℕ). s0 (get_or a.nodes.now (a.width + w) 0)) k.reached-station.ensures) in
-    let i = c in
-    let k = i in
-    let b = k in
-    let a = b.args in
-    let e = k.reached-station.ensures in
-    let yes = sym asks ∙ i.if-s0.true in
+    let below : (let a = c.args in c.reached-station.result < a.width) = (omega (arith, c.reached-station.ensures, reached_station c.args.width c.args.nodes.now c.requires.le_width)) in
+    let asks : (let a = c.args in c.s0.result ≡ s0 (get_or a.nodes.now (a.width + reached a.width a.nodes.now) 0)) = (let a = c.args in c.s0.ensures ∙ ap (λ (w : ℕ). s0 (get_or a.nodes.now (a.width + w) 0)) c.reached-station.ensures) in
+    let a = c.args in
+    let e = c.reached-station.ensures in
+    let yes = sym asks ∙ c.if-s0.true in
     record {
       value = c.decide.ensures ∙ counted_one a.width _ a.head below ∙ rw e (descended_one a.width a.nodes.now a.head yes);
-      grants_after = rw (b.requires.grants_value, e) (grants_one a.width a.nodes.now b.requires.le_width yes);
+      grants_after = rw (c.requires.grants_value, e) (grants_one a.width a.nodes.now c.requires.le_width yes);
     }
 
 pub returns : goal.returns
 returns c =
-    let asks : (let k = c in let a = k.args in c.s0.result ≡ s0 (get_or a.nodes.now (a.width + reached a.width a.nodes.now) 0)) = (let k = c in let a = k.args in c.s0.ensures ∙ ap (λ (w : ℕ). s0 (get_or a.nodes.now (a.width + w) 0)) k.reached-station.ensures) in
-    let i = c in
-    let b = i in
-    let a = b.args in
-    let no_one = sym asks ∙ i.if-s0.false in
+    let asks : (let a = c.args in c.s0.result ≡ s0 (get_or a.nodes.now (a.width + reached a.width a.nodes.now) 0)) = (let a = c.args in c.s0.ensures ∙ ap (λ (w : ℕ). s0 (get_or a.nodes.now (a.width + w) 0)) c.reached-station.ensures) in
+    let a = c.args in
+    let no_one = sym asks ∙ c.if-s0.false in
     record {
       value = c.idle.ensures ∙ descended_none a.width a.nodes.now a.head no_one;
-      grants_after = b.requires.grants_value ∙ grants_none a.width a.nodes.now no_one;
+      grants_after = c.requires.grants_value ∙ grants_none a.width a.nodes.now no_one;
     }

@@ -9,9 +9,6 @@ use Rattle.arbiter.proofs.question.cycle.Goals as goal
 
 pub returns : goal.returns
 returns c =
-    let t = c in
-    let w = t in
-    let r = w in
-    let a = r.args in
-    let unread = chained t.then-2.ensures (chained t.then.ensures refl r.read_length-by_requests.ensures) w.write_length-by_grants.ensures in
+    let a = c.args in
+    let unread = chained c.then-2.ensures (chained c.then.ensures refl c.read_length-by_requests.ensures) c.write_length-by_grants.ensures in
     c.read.ensures ∙ ap (λ (v : Verdict). Questions.read v a.requests.now) unread

@@ -16,13 +16,11 @@ returns-then-unread-ne-SERVED c = rw (ne_eqb _ 0 c.if-unread-ne-SERVED.true)
 pub returns-then-high-le1 : goal.returns-then-high-le1
 unfolding ◌then◌
 returns-then-high-le1 c =
-    let h = c in
-    let bytes = h.args.bytes.now in
-    let low : highest bytes ≤ 1 = omega (arith, h.highest-high.ensures) in
-    rw (eq-eqb _ 0 h.if-unread-ne-SERVED.false, highest_passes bytes low, c.refuse_unless.ensures, h.highest-high.ensures)
+    let bytes = c.args.bytes.now in
+    let low : highest bytes ≤ 1 = omega (arith, c.highest-high.ensures) in
+    rw (eq-eqb _ 0 c.if-unread-ne-SERVED.false, highest_passes bytes low, c.refuse_unless.ensures, c.highest-high.ensures)
 
 pub returns : goal.returns
 unfolding ◌then◌
 returns c =
-    let h = c in
-    rw (eq-eqb _ 0 h.if-unread-ne-SERVED.false, c.bits.ensures, h.highest-high.ensures)
+    rw (eq-eqb _ 0 c.if-unread-ne-SERVED.false, c.bits.ensures, c.highest-high.ensures)

@@ -6,6 +6,4 @@ use Rattle.arbiter.proofs.question.state.Goals as goal
 
 pub returns : goal.returns
 returns c =
-    let h = c in
-    let p = h in
-    chained c.then-2.ensures (chained c.then.ensures p.width-by_width.ensures p.picks-by_picks.ensures) h.head-by_head.ensures
+    chained c.then-2.ensures (chained c.then.ensures c.width-by_width.ensures c.picks-by_picks.ensures) c.head-by_head.ensures

@@ -7,5 +7,4 @@ use Rattle.arbiter.proofs.search.eight.Goals as goal
 
 pub returns : goal.returns
 returns c =
-    let b = c in
-    omega (arith, parts 4 4 b.args.bytes.now b.args.i (omega arith))
+    omega (arith, parts 4 4 c.args.bytes.now c.args.i (omega arith))

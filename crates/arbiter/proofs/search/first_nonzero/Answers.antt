@@ -25,10 +25,9 @@ lowest : (c : goal.After-lowest_byte)
     (p < l.i + 8) × (get_or b p 0 ≡ 0 → ⊥) × ((k : ℕ) → l.i ≤ k → k < p → get_or b k 0 ≡ 0)
 lowest c =
     let l = c.loop-i in
-    let s = c in
-    let b = s.args.bytes.now in
+    let b = c.args.bytes.now in
     let w = c.eight-word.ensures in
-    loud b l.i (omega arith) (λ k. omega (arith, s.shared_slice_known-1.given k)) (λ z. c.if-word-ne0.true (w ∙ z)) _ (rw (← w) (ap (λ (x : ℕ). l.i + x) c.lowest_byte.ensures))
+    loud b l.i (omega arith) (λ k. omega (arith, c.type_inv.bytes k)) (λ z. c.if-word-ne0.true (w ∙ z)) _ (rw (← w) (ap (λ (x : ℕ). l.i + x) c.lowest_byte.ensures))
 
 pub overflow_add-result : goal.overflow_add-result
 overflow_add-result c = omega (arith, (lowest c).0)

@@ -7,5 +7,4 @@ use Rattle.arbiter.proofs.search.four.Goals as goal
 
 pub returns : goal.returns
 returns c =
-    let b = c in
-    (omega (arith, parts 2 2 b.args.bytes.now b.args.i (omega arith)), omega arith)
+    (omega (arith, parts 2 2 c.args.bytes.now c.args.i (omega arith)), omega arith)

@@ -14,8 +14,6 @@ returns-then-verdict-ne-SERVED c =
 
 pub returns : goal.returns
 returns c =
-    let e = c in
-    let r = e in
-    let s = r.args.self.0 in
-    if_passed_lem _ r.readable-verdict.ensures e.if-verdict-ne-SERVED.false
+    let s = c.args.self.0 in
+    if_passed_lem _ c.readable-verdict.ensures c.if-verdict-ne-SERVED.false
     (c.served.ensures ∙ ap (λ (h : Head). served 0 (moved s h)) c.first_one-head.ensures)

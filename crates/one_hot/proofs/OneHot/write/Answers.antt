@@ -29,19 +29,16 @@ unfolding image
 returns-in_default c =
     let both =
           let ready : (let a = c.args in Writable a.self.0.width a.self.0.picks a.self.0.head a.self.0.width (length a.image.now)) = writable _ _ _ _ _ c.write-verdict.ensures c.if-verdict-ne-SERVED.false in
-          let k = c in
-          let e = k in
-          written _ _ e.write-verdict.ensures e.if-verdict-ne-SERVED.false c.served.ensures
-          (k.clear.ensures ∙ rw (c.in_default.is, ready.long)) in
+          written _ _ c.write-verdict.ensures c.if-verdict-ne-SERVED.false c.served.ensures
+          (c.clear.ensures ∙ rw (c.in_default.is, ready.long)) in
     record { value = both.0; image_after = both.1 }
 
 pub bounds-image-h : goal.bounds-image-h
 bounds-image-h c =
     let ready : (let a = c.args in Writable a.self.0.width a.self.0.picks a.self.0.head a.self.0.width (length a.image.now)) = writable _ _ _ _ _ c.write-verdict.ensures c.if-verdict-ne-SERVED.false in
-    let k = c in
     omega (
       arith,
-      k.clear.auto.bytes,
+      c.clear.auto.bytes,
       ready.long,
       ready.allows.station,
       ap start c.in-At.is,
@@ -56,10 +53,8 @@ unfolding image
 returns c =
     let both =
           let ready : (let a = c.args in Writable a.self.0.width a.self.0.picks a.self.0.head a.self.0.width (length a.image.now)) = writable _ _ _ _ _ c.write-verdict.ensures c.if-verdict-ne-SERVED.false in
-          let k = c in
-          let e = k in
-          let s = e.args.self.0 in
-          written _ _ e.write-verdict.ensures e.if-verdict-ne-SERVED.false
+          let s = c.args.self.0 in
+          written _ _ c.write-verdict.ensures c.if-verdict-ne-SERVED.false
           (c.served-2.ensures ∙ ap (λ (h : Head). served 0 (moved s h)) (sym c.in-At.is))
-          (ap (λ (l : List ℕ). set l c.in-At.h 1) k.clear.ensures ∙ rw (c.in-At.is, ready.long)) in
+          (ap (λ (l : List ℕ). set l c.in-At.h 1) c.clear.ensures ∙ rw (c.in-At.is, ready.long)) in
     record { value = both.0; image_after = both.1 }

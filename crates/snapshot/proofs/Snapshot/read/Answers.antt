@@ -23,12 +23,9 @@ held-fields-requires c =
 
 pub returns : goal.returns
 returns c =
-    let m = c in
-    let h = m in
-    let r = h in
-    let k = fields r.args.snapshot.now in
-    let f = h.held-fields.result in
+    let k = fields c.args.snapshot.now in
+    let f = c.held-fields.result in
     c.opened-2.ensures
-    ∙ ap (λ (head : Head). opened r.readable-verdict.result f.width f.picks head) m.marked-head.ensures
-    ∙ ap (λ (f : Fields). opened r.readable-verdict.result f.width f.picks (marked f.station f.mark)) h.held-fields.ensures
-    ∙ ap (λ (v : Verdict). opened v k.width k.picks (marked k.station k.mark)) r.readable-verdict.ensures
+    ∙ ap (λ (head : Head). opened c.readable-verdict.result f.width f.picks head) c.marked-head.ensures
+    ∙ ap (λ (f : Fields). opened c.readable-verdict.result f.width f.picks (marked f.station f.mark)) c.held-fields.ensures
+    ∙ ap (λ (v : Verdict). opened v k.width k.picks (marked k.station k.mark)) c.readable-verdict.ensures

@@ -54,9 +54,8 @@ bounds-snapshot-3 c =
 pub high-requires-2 : goal.high-requires-2
 high-requires-2 c =
     let ready : (let a = c.args in Writable a.self.0.width a.self.0.picks a.self.0.head size (length a.snapshot.now)) = writable _ _ _ _ _ c.write-verdict.ensures c.if-verdict-ne-SERVED.false in
-    let f = c in
     let r = ready.allows in
-    omega (arith, f.first_station-station.ensures, r.station, r.most)
+    omega (arith, c.first_station-station.ensures, r.station, r.most)
 
 pub bounds-snapshot-4 : goal.bounds-snapshot-4
 bounds-snapshot-4 c =
@@ -75,10 +74,7 @@ pub returns : goal.returns
 returns c =
     let both =
           let ready : (let a = c.args in Writable a.self.0.width a.self.0.picks a.self.0.head size (length a.snapshot.now)) = writable _ _ _ _ _ c.write-verdict.ensures c.if-verdict-ne-SERVED.false in
-          let m = c in
-          let high = m in
-          let low = high in
-          let last-high = low in
+          let last-high = c in
           let last-low = last-high in
           let first = last-low in
           let e = first in
@@ -87,5 +83,5 @@ returns c =
           let station = first.first_station-station.ensures in
           written _ _ e.write-verdict.ensures e.if-verdict-ne-SERVED.false c.served.ensures
           (six_set _ _ _ _ _ _ a.snapshot.now ready.long
-          ∙ six_saved s last-low.low.ensures last-high.high.ensures station low.low-2.ensures high.high-2.ensures m.mark.ensures) in
+          ∙ six_saved s last-low.low.ensures last-high.high.ensures station c.low-2.ensures c.high-2.ensures c.mark.ensures) in
     record { value = both.0; snapshot_after = both.1 }

@@ -7,7 +7,4 @@ use Rattle.thermometer.proofs.adder.addable.Goals as goal
 
 pub returns : goal.returns
 returns c =
-    let codes = c in
-    let right = codes in
-    let left = right in
-    chained c.then.ensures left.refuse_unless-by_picks.ensures (codes.refuse_unless-by_codes.ensures ∙ rw (left.is_code.ensures, right.is_code-2.ensures))
+    chained c.then.ensures c.refuse_unless-by_picks.ensures (c.refuse_unless-by_codes.ensures ∙ rw (c.is_code.ensures, c.is_code-2.ensures))

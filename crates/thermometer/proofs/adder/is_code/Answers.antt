@@ -11,4 +11,4 @@ pub overflow_cast-trailing_ones : goal.overflow_cast-trailing_ones
 overflow_cast-trailing_ones c = omega (arith, trailing_le 8 (255 - c.args.byte))
 
 pub returns : goal.returns
-returns c = let b = c in trailing_code b.args.picks b.args.byte _ (omega (arith, b)) c.count-ones.ensures
+returns c = trailing_code c.args.picks c.args.byte _ (omega (arith, c)) c.count-ones.ensures

@@ -32,40 +32,33 @@ build-requires c =
 pub grant-decision-requires : goal.grant-decision-requires
 grant-decision-requires c =
     let asked : (let a = c.args in let s = a.self.0 in Ready s.width s.picks s.head a.requests.now (length a.grants.now) (length a.nodes.now)) = ready _ _ _ _ _ _ c.cycle-verdict.ensures c.if-verdict-ne-SERVED.false in
-    let u = c in
-    let k = u in
-    let f = k in
-    let a = f.args in
+    let a = c.args in
     let s = a.self.0 in
     let e = asked in
-    let is = u.build.ensures in
+    let is = c.build.ensures in
     let asks = requested a.requests.now in
     record {
       le_width = e.allows.some;
       nodes_len = ap length is ∙ tree_length s.width s.picks s.head asks e.allows;
       values = rw is (tree_values s.width s.picks s.head asks e.allows);
-      grants_value = k.clear.ensures ∙ rw e.room;
+      grants_value = c.clear.ensures ∙ rw e.room;
     }
 
 pub returns : goal.returns
 returns c =
     let both =
           let asked : (let a = c.args in let s = a.self.0 in Ready s.width s.picks s.head a.requests.now (length a.grants.now) (length a.nodes.now)) = ready _ _ _ _ _ _ c.cycle-verdict.ensures c.if-verdict-ne-SERVED.false in
-          let g = c in
-          let u = g in
-          let k = u in
-          let f = k in
-          let a = f.args in
+          let a = c.args in
           let s = a.self.0 in
           let e = asked in
-          let is = u.build.ensures in
+          let is = c.build.ensures in
           let asks = requested a.requests.now in
-          written _ _ _ _ f.cycle-verdict.ensures f.if-verdict-ne-SERVED.false
+          written _ _ _ _ c.cycle-verdict.ensures c.if-verdict-ne-SERVED.false
           (c.served.ensures
           ∙ ap (λ (d : Decision). decided s d)
-          (g.grant-decision.ensures.value
+          (c.grant-decision.ensures.value
           ∙ ap (descended s.width s.head) is
           ∙ tree_decides s.width s.picks s.head asks e.allows))
-          (g.grant-decision.ensures.grants_after ∙ ap (Rule.grants s.width) is ∙ tree_grants s.width s.picks s.head asks e.allows)
+          (c.grant-decision.ensures.grants_after ∙ ap (Rule.grants s.width) is ∙ tree_grants s.width s.picks s.head asks e.allows)
           is in
     record { value = both.0; grants_after = both.1.0; nodes_after = both.1.1 }

@@ -9,19 +9,16 @@ pub loop-u-init : goal.loop-u-init
 loop-u-init c = way_begins _ _ c.requires.le_width
 
 pub child-u-requires : goal.child-u-requires
-child-u-requires c =
-    let b = c in
-    record {
+child-u-requires c = record {
       u_in_bounds = omega arith;
-      u_bound = b.requires.values _ (omega arith);
-      u_bound_2 = b.requires.values _ (omega arith);
+      u_bound = c.requires.values _ (omega arith);
+      u_bound_2 = c.requires.values _ (omega arith);
     }
 
 pub loop-u-smaller : goal.loop-u-smaller
 loop-u-smaller c =
     let l = c.loop-u in
-    let b = c in
-    omega (arith, c.child-u.ensures, child_low b.args.nodes.now l.u, l.invariant.low)
+    omega (arith, c.child-u.ensures, child_low c.args.nodes.now l.u, l.invariant.low)
 
 pub loop-u-preserved : goal.loop-u-preserved
 loop-u-preserved c =

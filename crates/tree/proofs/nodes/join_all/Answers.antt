@@ -12,9 +12,8 @@ use Rattle.tree.proofs.nodes.join_all.Goals as goal
 
 pub loop-u-init : goal.loop-u-init
 loop-u-init c =
-    let j = c in
-    let d = j.join_levels-u.ensures in
-    (j.join_levels-u.auto.nodes ∙ j.requires.nodes_len, done_begins _ _ _ d.some d.most d.values)
+    let d = c.join_levels-u.ensures in
+    (c.join_levels-u.auto.nodes ∙ c.requires.nodes_len, done_begins _ _ _ d.some d.most d.values)
 
 pub join-requires : goal.join-requires
 join-requires c =

@@ -11,12 +11,11 @@ use Rattle.tree.proofs.Buffer.{done_begins, done_level}
 use Rattle.tree.proofs.nodes.join_levels.Goals as goal
 
 pub returns-then-width-le-FEW_NODES : goal.returns-then-width-le-FEW_NODES
-returns-then-width-le-FEW_NODES c = let b = c in done_begins _ _ _ b.requires.le_width (omega arith) b.requires.values_from
+returns-then-width-le-FEW_NODES c = done_begins _ _ _ c.requires.le_width (omega arith) c.requires.values_from
 
 pub loop-low-init : goal.loop-low-init
 loop-low-init c =
-    let b = c in
-    (b.requires.nodes_len, refl, done_begins _ _ _ b.requires.le_width (omega arith) b.requires.values_from)
+    (c.requires.nodes_len, refl, done_begins _ _ _ c.requires.le_width (omega arith) c.requires.values_from)
 
 pub overflow_sub-from : goal.overflow_sub-from
 overflow_sub-from c = omega (arith, c.pairs_below.ensures)
@@ -45,12 +44,10 @@ join_pairs-requires c =
 
 pub loop-low-preserved : goal.loop-low-preserved
 loop-low-preserved c =
-    let j = c in
-    let r = j in
-    let l = r.loop-low in
-    let long = j.join_pairs.auto.nodes ∙ l.invariant.0 in
-    let done = done_level _ _ _ _ _ _ (omega arith) (omega arith) (omega arith) long j.join_pairs.ensures l.invariant.2 in
-    (long, r.read_pairs.ensures.room, done)
+    let l = c.loop-low in
+    let long = c.join_pairs.auto.nodes ∙ l.invariant.0 in
+    let done = done_level _ _ _ _ _ _ (omega arith) (omega arith) (omega arith) long c.join_pairs.ensures l.invariant.2 in
+    (long, c.read_pairs.ensures.room, done)
 
 pub returns : goal.returns
 returns c = c.loop-low.invariant.2

@@ -11,8 +11,7 @@ use Rattle.tree.proofs.nodes.mark_head.Goals as goal
 
 pub returns-in_default : goal.returns-in_default
 returns-in_default c =
-    let b = c in
-    rw c.in_default.is (marked_none _ _ b.requires.nodes_len b.requires.bits)
+    rw c.in_default.is (marked_none _ _ c.requires.nodes_len c.requires.bits)
 
 pub overflow_add-nodes : goal.overflow_add-nodes
 overflow_add-nodes c =
@@ -27,9 +26,7 @@ bounds-nodes-width c =
 pub overflow_add-nodes-2 : goal.overflow_add-nodes-2
 overflow_add-nodes-2 c =
     let below : c.in-At.h < c.args.width = omega (arith, ap start c.in-At.is, start_at c.in-At.h, c.requires.head_bound) in
-    let h = c in
-    let b = h in
-    omega (arith, request_bit _ _ b.requires.nodes_len b.requires.bits h.in-At.h below)
+    omega (arith, request_bit _ _ c.requires.nodes_len c.requires.bits c.in-At.h below)
 
 pub bounds-nodes-width-2 : goal.bounds-nodes-width-2
 bounds-nodes-width-2 c =
@@ -38,6 +35,4 @@ bounds-nodes-width-2 c =
 
 pub returns : goal.returns
 returns c =
-    let h = c in
-    let b = h in
-    rw h.in-At.is (marked_at _ _ b.requires.nodes_len b.requires.bits h.in-At.h)
+    rw c.in-At.is (marked_at _ _ c.requires.nodes_len c.requires.bits c.in-At.h)
