@@ -1,0 +1,22 @@
+-- `join_all` meets its contract: what is left of the network gives what the whole of it gives.
+-- Assumes nothing.
+use Prim.Native.Nat.{ℕ, ◌-◌, ◌≤◌}
+use mathlib.Core.Path.{◌≡◌, sym, ap, ◌∙◌}
+use mathlib.Core.List.{List}
+use native.Mathlib.Omega.{arith}
+use lib.Count.{ones}
+use lib.ListN.{length}
+use Rattle.rules.specs.KoggeStone.{distances, joined, levels}
+use Rattle.rules.specs.KoggeStone.Laws as Network
+use Rattle.rules.specs.KoggeStone.Laws.{Left}
+use Rattle.kogge_stone.specs.Steps.{Codes}
+use Rattle.kogge_stone.proofs.Codes.{joined_codes}
+use Rattle.kogge_stone.proofs.network.join_all.Given as goal
+
+abbrev pub invariant-loop-distance : goal.invariant-loop-distance
+invariant-loop-distance l =
+    (1 ≤ l.distance) × (length l.codes ≡ length l.initial.codes) × (length l.before ≡ length l.initial.codes) × Codes (ones l.full) l.codes
+    × Left (ones l.full) (length l.initial.codes) l.distance l.codes (levels (ones l.full) (distances (length l.initial.codes)) l.initial.codes)
+
+abbrev pub decreases-loop-distance : goal.decreases-loop-distance
+decreases-loop-distance l = length l.initial.codes - l.distance
