@@ -1,8 +1,8 @@
 // The program `turns`: reads standard input, runs it, and writes what it prints to standard output.
 #![tactic(auto)]
 
-use libc::{STDIN_FILENO, STDOUT_FILENO};
+use std::io;
 
-fn main() {
-    console::run(STDIN_FILENO, STDOUT_FILENO);
+fn main(rt: HostRuntime) -> io::Result<()> {
+    console::run(&mut rt.reader(), &mut io::writer(&rt))
 }

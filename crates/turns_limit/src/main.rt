@@ -1,8 +1,8 @@
 // A test: what the program `turns` prints for an input that is one byte too long.
 #![tactic(auto)]
 
-use libc::{STDIN_FILENO, STDOUT_FILENO};
+use std::io;
 
-fn main() {
-    console::run(STDIN_FILENO, STDOUT_FILENO);
+fn main(rt: HostRuntime) -> io::Result<()> {
+    console::run(&mut rt.reader(), &mut io::writer(&rt))
 }
