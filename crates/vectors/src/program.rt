@@ -1,9 +1,11 @@
 // Inputs of the program against the texts that they give. They stand in a list, whose kind says how. The heading, which every text
 // begins with, is left out.
-ghost use Rattle.std.specs.Prelude.{◌<◌};
+ghost use Rattle.std.specs.Prelude.{◌<◌, ◌≤◌};
 
 use crate::report::{Outcome, Tally};
 use crate::{compare, engine, pieces};
+use std::rt::Files;
+use std::{fs, io};
 use transcript::LIMIT;
 
 // No list has more cases.
@@ -35,7 +37,12 @@ struct Pieces {
 }
 
 // All cases of a list, as a line of its own.
-pub(crate) fn line(name: &[u8], kind: Kind, list: &[u8]) {
+pub(crate) fn line(
+    rt: &(impl Print + Files + AllocGlobal),
+    name: &[u8],
+    kind: Kind,
+    list: &[u8],
+) -> io::Result<()> {
     let mut input = [b'0'; 65537];
     let mut output = [0u8; LIMIT];
     let mut t = Tally {
@@ -44,13 +51,16 @@ pub(crate) fn line(name: &[u8], kind: Kind, list: &[u8]) {
     };
     let mut i: usize = 0;
     while i < MOST {
-        t = t.add(case(kind, list, i, &mut input, &mut output), i);
+        let before = t;
+        t = t.add(case(rt, kind, list, i, &mut input, &mut output));
+        t.list(rt, before, i)?;
         i += 1;
     }
-    t.line(name);
+    t.line(rt, name)
 }
 
 fn case(
+    rt: &(impl Files + AllocGlobal),
     kind: Kind,
     list: &[u8],
     i: usize,
@@ -66,8 +76,8 @@ fn case(
     let given = pieces::piece(list, p.input);
     let known = pieces::piece(list, p.text);
     if let Kind::Files = kind {
-        let read = read(given, input);
-        return Outcome::Ran(gives_file(input, read, known, output));
+        let read = read(rt, given, input);
+        return Outcome::Ran(gives_file(rt, input, read, known, output));
     }
     let copied = copy(given, input);
     put((i % 256) as u8, input);
@@ -129,7 +139,9 @@ fn byte_text(list: &[u8], given: usize, byte: u8) -> usize
 }
 
 // Writes a text at the start of the input, and answers how long it is.
-fn copy(text: &[u8], input: &mut [u8; 65537]) -> usize {
+fn copy(text: &[u8], input: &mut [u8; 65537]) -> usize
+    ensures { result ≤ 65537 }
+{
     let end = engine::lesser(text.len(), 65537);
     let mut i: usize = 0;
     while i < end {
@@ -148,19 +160,28 @@ fn put(byte: u8, input: &mut [u8; 65537]) {
 }
 
 // Reads a file, and answers how long it is: 0 where it is missing.
-fn read(name: &[u8], input: &mut [u8; 65537]) -> usize {
-    let file = os::open_read(name);
-    let length = io::read_full(file, input);
-    libc::close(file);
-    length
+fn read(rt: &(impl Files + AllocGlobal), name: &[u8], input: &mut [u8; 65537]) -> usize
+    ensures { result ≤ 65537 }
+{
+    let Ok(path) = str::from_utf8(name) else {
+        return 0;
+    };
+    let Ok(bytes) = fs::read(rt, path) else {
+        return 0;
+    };
+    copy(bytes.as_slice(), input)
 }
 
 // Whether an input gives the text in a file, which has the heading too. A file that is missing differs.
-fn gives_file(input: &[u8; 65537], length: usize, name: &[u8], output: &mut [u8; LIMIT]) -> bool {
-    let file = os::open_read(name);
-    let mut known = io::large_buffer();
-    let end = io::read_full(file, &mut known);
-    libc::close(file);
+fn gives_file(
+    rt: &(impl Files + AllocGlobal),
+    input: &[u8; 65537],
+    length: usize,
+    name: &[u8],
+    output: &mut [u8; LIMIT],
+) -> bool {
+    let mut known = [0u8; 65537];
+    let end = read(rt, name, &mut known);
     if end < 18 {
         return false;
     }

@@ -1,5 +1,5 @@
 // The count of a group's cases, and what is printed of it.
-use libc::STDOUT_FILENO;
+use std::io::{self, Write};
 
 // How many differences of a group are listed. The others are only counted.
 const LISTED: usize = 10;
@@ -19,8 +19,8 @@ pub struct Tally {
 }
 
 impl Tally {
-    // What came of the number `i`.
-    pub(crate) fn add(mut self, outcome: Outcome, i: usize) -> Tally {
+    // The count with what came of one more number.
+    pub(crate) fn add(mut self, outcome: Outcome) -> Tally {
         let Outcome::Ran(same) = outcome else {
             return self;
         };
@@ -28,24 +28,23 @@ impl Tally {
         if same {
             return self;
         }
-        if self.differ < LISTED {
-            number(b"  differs: case ", i);
-            io::write_all(STDOUT_FILENO, b"\n");
-        }
         self.differ = self.differ % 1000000000 + 1;
         self
     }
 
-    // Prints the group's line.
-    pub(crate) fn line(self, group: &[u8]) {
-        io::write_all(STDOUT_FILENO, group);
-        number(b": ", self.cases);
-        number(b" cases, ", self.differ);
-        io::write_all(STDOUT_FILENO, b" differ\n");
+    // Prints the number `i`, with which the count `before` became this one, if its case differs and is one of the first.
+    pub(crate) fn list(self, rt: &impl Print, before: Tally, i: usize) -> io::Result<()> {
+        if (self.differ != before.differ) & (before.differ < LISTED) {
+            println!(rt; "  differs: case {i}")?;
+        }
+        Ok(())
     }
-}
 
-fn number(word: &[u8], n: usize) {
-    io::write_all(STDOUT_FILENO, word);
-    io::print_decimal(STDOUT_FILENO, n as u64);
+    // Prints the group's line.
+    pub(crate) fn line(self, rt: &impl Print, group: &[u8]) -> io::Result<()> {
+        let cases = self.cases;
+        let differ = self.differ;
+        io::writer(rt).write_all(group)?;
+        println!(rt; ": {cases} cases, {differ} differ")
+    }
 }

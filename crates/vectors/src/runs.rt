@@ -46,7 +46,7 @@ fn cycle(e: usize, i: usize, s: State, p: Progress) -> Progress {
     let mut p = p;
     p.state = state;
     p.seed = seed;
-    p.add(Outcome::Ran(cycle.same), i)
+    p.add(Outcome::Ran(cycle.same))
 }
 
 fn cycle_with(e: usize, s: State, requests: &[u8; WIDEST], seed: u64) -> Cycle {

@@ -26,7 +26,7 @@ pub(crate) fn case(table: usize, i: usize, p: Progress) -> Progress {
     }
     let place = i % 64;
     let met = (p.met >> place) % 2 == 1;
-    p.add(Outcome::Ran(expected(table, place) == met), i)
+    p.add(Outcome::Ran(expected(table, place) == met))
 }
 
 // A node on the way down, the lowest first. Where no one is granted no way is seen.
@@ -74,10 +74,7 @@ fn judge(
     let valued = value(pair) == nodes[parent];
     let mut p = p;
     p.met = p.met | (1u64 << place);
-    p.add(
-        Outcome::Ran(valued & (goes_right(table, place) == (node % 2 == 1))),
-        i,
-    )
+    p.add(Outcome::Ran(valued & (goes_right(table, place) == (node % 2 == 1))))
 }
 
 fn column(node: usize, headed: bool) -> usize

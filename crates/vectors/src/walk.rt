@@ -4,6 +4,7 @@ use crate::report::{Outcome, Tally};
 use crate::{conversions, known, packed, pieces, refusals, running, runs, small, sums, tables};
 use arbiter::State;
 use rules::Head;
+use std::io;
 
 #[derive(Clone, Copy)]
 pub enum Group {
@@ -36,26 +37,28 @@ pub struct Progress {
 }
 
 impl Progress {
-    // What came of the number `i`.
-    pub(crate) fn add(mut self, outcome: Outcome, i: usize) -> Progress {
+    // This, with what came of one more number.
+    pub(crate) fn add(mut self, outcome: Outcome) -> Progress {
         let t = self.tally;
-        self.tally = t.add(outcome, i);
+        self.tally = t.add(outcome);
         self
     }
 }
 
 // A line for each of these names. A group with several is walked by several engines, calls, tables or forms, by number.
-pub(crate) fn lines(names: &[u8], group: Group, cases: usize) {
+pub(crate) fn lines(rt: &impl Print, names: &[u8], group: Group, cases: usize) -> io::Result<()> {
     let mut which: usize = 0;
     while which < LINES {
         if !pieces::missing(names, which) {
-            walk(group, which, cases).line(pieces::piece(names, which));
+            let t = walk(rt, group, which, cases)?;
+            t.line(rt, pieces::piece(names, which))?;
         }
         which += 1;
     }
+    Ok(())
 }
 
-fn walk(group: Group, which: usize, cases: usize) -> Tally {
+fn walk(rt: &impl Print, group: Group, which: usize, cases: usize) -> io::Result<Tally> {
     let mut p = Progress {
         tally: Tally {
             cases: 0,
@@ -71,10 +74,13 @@ fn walk(group: Group, which: usize, cases: usize) -> Tally {
     };
     let mut i: usize = 0;
     while i < cases {
+        let before = p.tally;
         p = case(group, which, i, p);
+        let after = p.tally;
+        after.list(rt, before, i)?;
         i += 1;
     }
-    p.tally
+    Ok(p.tally)
 }
 
 fn case(group: Group, which: usize, i: usize, p: Progress) -> Progress {
@@ -93,5 +99,5 @@ fn case(group: Group, which: usize, i: usize, p: Progress) -> Progress {
         Group::Snapshot => conversions::known(i),
         Group::Packed => packed::case(which, i),
     };
-    p.add(outcome, i)
+    p.add(outcome)
 }

@@ -1,0 +1,11 @@
+-- `lines` is safe and ends.
+-- Assumes nothing.
+use Prim.Native.Nat.{◌-◌, ◌≤◌}
+use borrow.Author.Rules.{rules}
+use Rattle.vectors.proofs.walk.lines.Given as goal
+
+abbrev pub invariant-loop-which : goal.invariant-loop-which
+invariant-loop-which g l = l.which ≤ 9
+
+abbrev pub decreases-loop-which : goal.decreases-loop-which
+decreases-loop-which g l = 9 - l.which
