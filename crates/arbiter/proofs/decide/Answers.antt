@@ -2,7 +2,6 @@
 -- Assumes nothing.
 use mathlib.Core.Path.{◌∙◌}
 use borrow.Author.Tests.{eq-eqb, ne_eqb}
-use borrow.Author.Rules.{rules}
 use Rattle.arbiter.proofs.decide.Goals as goal
 
 pub returns-then-count-eq0 : goal.returns-then-count-eq0

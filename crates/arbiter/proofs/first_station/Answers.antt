@@ -1,7 +1,6 @@
 -- `first_station` meets its contract.
 -- Assumes nothing.
 use mathlib.Core.Path.{sym, ap, ◌∙◌}
-use borrow.Author.Rules.{rules}
 use Rattle.rules.specs.RoundRobin.{start}
 use Rattle.rules.specs.RoundRobin.Laws.{start_none, start_at}
 use Rattle.arbiter.proofs.first_station.Goals as goal

@@ -1,13 +1,9 @@
 -- `walk_run` meets its contract: up to the station found last the run is done.
 -- Assumes nothing.
-use Prim.Native.Nat.{◌≤◌, ◌-◌}
 use mathlib.Core.Path.{◌≡◌, sym, ◌∙◌}
 use native.Mathlib.Omega.{arith}
-use lib.ListN.{length, length-set, length-take}
-use borrow.Author.Rules.{rules}
-use Rattle.rules.specs.Walk.{Ran}
+use lib.ListN.{length-set, length-take}
 use Rattle.rules.specs.Walk.Laws as Walk
-use Rattle.arbiter.specs.Decisions.{requested}
 use Rattle.scan.proofs.Searches as Searches
 use Rattle.scan.proofs.walk_run.Goals as goal
 

@@ -1,7 +1,6 @@
 -- `held` meets its contract: once 5 has passed, what is not short is long.
 -- Assumes nothing.
 use mathlib.Core.Path.{sym, ◌∙◌}
-use borrow.Author.Rules.{rules}
 use Rattle.snapshot.specs.Calls.Laws.{long_size, fields_short, fields_long}
 use Rattle.snapshot.proofs.held.Goals as goal
 

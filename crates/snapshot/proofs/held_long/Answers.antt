@@ -1,6 +1,5 @@
 -- `held_long` meets its contract.
 -- Assumes nothing.
-use borrow.Author.Rules.{rules}
 use Rattle.snapshot.specs.Calls.{long_fields}
 use Rattle.snapshot.proofs.held_long.Goals as goal
 

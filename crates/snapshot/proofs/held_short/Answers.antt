@@ -1,6 +1,5 @@
 -- `held_short` meets its contract.
 -- Assumes nothing.
-use borrow.Author.Rules.{rules}
 use Rattle.snapshot.specs.Calls.{short_fields}
 use Rattle.snapshot.proofs.held_short.Goals as goal
 

@@ -1,11 +1,8 @@
 -- `text::put_all` meets its contract. The loop's invariant: the text is written up to the i-th character.
 -- Assumes nothing.
 use Prim.Native.Nat.{◌-◌}
-use mathlib.Core.Path.{refl}
-use native.Mathlib.Omega.{arith}
 use lib.ListN.{length, take}
 use Rattle.text.specs.Output.{Put}
-use Rattle.text.specs.Output.Laws.{put_length, put_none, put_more, put_last}
 use Rattle.text.proofs.put_all.Given as goal
 
 abbrev pub invariant-loop-i : goal.invariant-loop-i

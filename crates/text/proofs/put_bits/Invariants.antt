@@ -1,13 +1,10 @@
 -- `text::put_bits` meets its contract. The loop's invariant: the characters of the bits are written up to the i-th.
 -- Assumes nothing.
 use Prim.Native.Nat.{◌-◌}
-use mathlib.Core.Path.{sym, ◌∙◌}
-use native.Mathlib.Omega.{arith}
-use lib.ListN.{length, take, get_or-map, length-map}
+use lib.ListN.{length, take}
 use Rattle.text.specs.Characters as Characters
 use Rattle.text.specs.Characters.{bit}
 use Rattle.text.specs.Output.{Put}
-use Rattle.text.specs.Output.Laws.{put_length, put_none, put_more, put_last}
 use Rattle.text.proofs.put_bits.Given as goal
 
 abbrev pub invariant-loop-i : goal.invariant-loop-i

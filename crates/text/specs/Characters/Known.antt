@@ -1,6 +1,6 @@
 -- Some numbers and bits as text, by computing.
 -- Assumes nothing.
-use Rattle.std.specs.Prelude.{ℕ, ◌≡◌, refl, List, [], ◌∷◌, map}
+use Rattle.std.specs.Prelude.{◌≡◌, refl, [], ◌∷◌, map}
 use Rattle.text.specs.Characters.{digits, decimal, bits}
 
 -- 0, 9, 10, 1024 and 65536

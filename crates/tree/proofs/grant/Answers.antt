@@ -4,7 +4,6 @@ use Prim.Native.Nat.{ℕ, ◌+◌, ◌<◌}
 use mathlib.Core.Path.{◌≡◌, sym, ap, ◌∙◌}
 use native.Mathlib.Omega.{arith}
 use lib.ListN.{length, get_or, length-replicate}
-use borrow.Author.Rules.{rules}
 use Rattle.rules.specs.Tree.{s0, reached}
 use Rattle.rules.specs.Tree.Laws.{reached_station}
 use Rattle.arbiter.specs.Decisions.Laws.{counted_one}

@@ -1,7 +1,6 @@
 -- `opened` meets its contract.
 -- Assumes nothing.
 use mathlib.Core.Path.{refl}
-use borrow.Author.Rules.{rules}
 use Rattle.arbiter.specs.Answers.Laws.{if_passed_lem, if_refused}
 use Rattle.arbiter.proofs.Answer.opened.Goals as goal
 

@@ -1,13 +1,11 @@
 -- `bits` meets its contract: every byte that it passed is 0 or 1.
 -- Assumes nothing.
-use Prim.Native.Nat.{◌≤◌, ◌<◌, ◌-◌}
-use lib.Dec.{ltb}
+use Prim.Native.Nat.{◌≤◌, ◌<◌}
 use mathlib.Core.Path.{sym, ap, ◌∙◌}
 use native.Mathlib.Omega.{arith}
-use lib.ListN.{length, get_or}
-use borrow.Author.Rules.{rules}
+use lib.ListN.{get_or}
 use borrow.Author.Tests.{lt-ltb, le-ltb}
-use Rattle.arbiter.specs.Places.Laws.{Free, free_none, free_more, places_none, places_first}
+use Rattle.arbiter.specs.Places.Laws.{free_none, free_more, places_none, places_first}
 use Rattle.arbiter.specs.Questions.{refuse_at_first}
 use Rattle.arbiter.proofs.question.bits.Goals as goal
 

@@ -3,7 +3,6 @@
 use Prim.Native.Nat.{◌≤◌}
 use native.Mathlib.Omega.{arith}
 use borrow.Author.Tests.{eq-eqb, ne_eqb}
-use borrow.Author.Rules.{rules}
 use Rattle.arbiter.specs.Places.{highest}
 use Rattle.arbiter.specs.Questions.{◌then◌}
 use Rattle.arbiter.specs.Questions.Laws.{highest_passes}

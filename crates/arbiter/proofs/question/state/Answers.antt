@@ -1,6 +1,5 @@
 -- `state` meets its contract: the questions in their order.
 -- Assumes nothing.
-use borrow.Author.Rules.{rules}
 use Rattle.arbiter.specs.Questions.Laws.{chained}
 use Rattle.arbiter.proofs.question.state.Goals as goal
 

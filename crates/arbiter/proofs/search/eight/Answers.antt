@@ -1,7 +1,6 @@
 -- `eight` meets its contract.
 -- Assumes nothing.
 use native.Mathlib.Omega.{arith}
-use borrow.Author.Rules.{rules}
 use Rattle.arbiter.specs.Words.Laws.{parts}
 use Rattle.arbiter.proofs.search.eight.Goals as goal
 

@@ -1,12 +1,9 @@
 -- `first_of_few` meets its contract: every byte that it passed is 0.
 -- Assumes nothing.
-use Prim.Native.Nat.{◌≤◌, ◌-◌}
-use lib.Dec.{ltb}
 use mathlib.Core.Path.{sym, ap}
 use native.Mathlib.Omega.{arith}
-use lib.ListN.{length}
 use Rattle.arbiter.specs.Places.{first}
-use Rattle.arbiter.specs.Places.Laws.{Free, free_none, free_more, places_none, places_first, is_nonzero, is_zero}
+use Rattle.arbiter.specs.Places.Laws.{free_none, free_more, places_none, places_first, is_nonzero, is_zero}
 use Rattle.arbiter.proofs.search.first_of_few.Goals as goal
 
 pub loop-i-init : goal.loop-i-init

@@ -1,14 +1,9 @@
 -- `first_one` meets its contract: no byte that it passed is 1.
 -- Assumes nothing.
 use Prim.Native.Nat.{◌-◌, ◌≤◌}
-use mathlib.Core.Path.{sym, ap, ◌∙◌}
-use native.Mathlib.Omega.{arith}
-use lib.Dec.{eqb, ltb}
+use lib.Dec.{eqb}
 use lib.ListN.{length}
-use borrow.Author.Rules.{rules}
-use borrow.Author.Tests.{eq-eqb, ne_eqb}
-use Rattle.arbiter.specs.Places.{first}
-use Rattle.arbiter.specs.Places.Laws.{Free, free_none, free_on, free_more, free_of, no_one, places_none, places_first, first_none, Found, found}
+use Rattle.arbiter.specs.Places.Laws.{Free}
 use Rattle.arbiter.proofs.search.first_one.Given as goal
 
 abbrev pub invariant-loop-place : goal.invariant-loop-place

@@ -1,11 +1,6 @@
 -- `highest` meets its contract: what it has, and the highest of the bytes to come, is the highest of all.
 -- Assumes nothing.
-use Prim.Native.Nat.{◌-◌, max}
-use mathlib.Core.Path.{◌≡◌}
-use mathlib.Core.Logic.{⊎_elim}
 use native.Mathlib.Omega.{arith}
-use lib.ListN.{length, drop}
-use Rattle.arbiter.specs.Places.{highest}
 use Rattle.arbiter.specs.Places.Laws.{highest_none, highest_next}
 use Rattle.arbiter.proofs.search.highest.Goals as goal
 use Rattle.arbiter.proofs.search.highest.Goals.{else-high-bytes, then-high-bytes}

@@ -2,11 +2,8 @@
 -- Assumes nothing.
 use Prim.Native.Nat.{◌-◌, max}
 use mathlib.Core.Path.{◌≡◌}
-use mathlib.Core.Logic.{⊎_elim}
-use native.Mathlib.Omega.{arith}
 use lib.ListN.{length, drop}
 use Rattle.arbiter.specs.Places.{highest}
-use Rattle.arbiter.specs.Places.Laws.{highest_none, highest_next}
 use Rattle.arbiter.proofs.search.highest.Given as goal
 
 abbrev pub invariant-loop-i : goal.invariant-loop-i

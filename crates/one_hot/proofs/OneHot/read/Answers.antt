@@ -1,7 +1,6 @@
 -- `read` meets its contract: it asks its questions, and then the first 1 is the head.
 -- Assumes nothing.
 use mathlib.Core.Path.{ap, ◌∙◌}
-use borrow.Author.Rules.{rules}
 use Rattle.rules.specs.declared.Head.{Head}
 use Rattle.arbiter.specs.Answers.{moved, served}
 use Rattle.arbiter.specs.Answers.Laws.{if_passed_lem, if_refused, refusal}

@@ -5,7 +5,6 @@ use mathlib.Core.Path.{sym, ap, ◌∙◌}
 use mathlib.Core.List.{List}
 use native.Mathlib.Omega.{arith}
 use lib.ListN.{length, set, length-set}
-use borrow.Author.Rules.{rules}
 use Rattle.rules.specs.declared.Head.{Head}
 use Rattle.rules.specs.RoundRobin.{start}
 use Rattle.rules.specs.RoundRobin.Laws.{start_at}
@@ -18,7 +17,7 @@ use Rattle.one_hot.proofs.OneHot.write.Goals as goal
 pub returns-then-verdict-ne-SERVED : goal.returns-then-verdict-ne-SERVED
 returns-then-verdict-ne-SERVED c =
     let both =
-       let v = c.write-verdict.ensures in unwritten _ _ _ v c.if-verdict-ne-SERVED.true c.refused.ensures in
+    let v = c.write-verdict.ensures in unwritten _ _ _ v c.if-verdict-ne-SERVED.true c.refused.ensures in
     record { value = both.0; image_after = both.1 }
 
 pub shape_of-image-in_default : goal.shape_of-image-in_default
@@ -28,9 +27,9 @@ pub returns-in_default : goal.returns-in_default
 unfolding image
 returns-in_default c =
     let both =
-          let ready : (let a = c.args in Writable a.self.0.width a.self.0.picks a.self.0.head a.self.0.width (length a.image.now)) = writable _ _ _ _ _ c.write-verdict.ensures c.if-verdict-ne-SERVED.false in
-          written _ _ c.write-verdict.ensures c.if-verdict-ne-SERVED.false c.served.ensures
-          (c.clear.ensures ∙ rw (c.in_default.is, ready.long)) in
+    let ready : (let a = c.args in Writable a.self.0.width a.self.0.picks a.self.0.head a.self.0.width (length a.image.now)) = writable _ _ _ _ _ c.write-verdict.ensures c.if-verdict-ne-SERVED.false in
+    written _ _ c.write-verdict.ensures c.if-verdict-ne-SERVED.false c.served.ensures
+    (c.clear.ensures ∙ rw (c.in_default.is, ready.long)) in
     record { value = both.0; image_after = both.1 }
 
 pub bounds-image-h : goal.bounds-image-h
@@ -52,9 +51,9 @@ pub returns : goal.returns
 unfolding image
 returns c =
     let both =
-          let ready : (let a = c.args in Writable a.self.0.width a.self.0.picks a.self.0.head a.self.0.width (length a.image.now)) = writable _ _ _ _ _ c.write-verdict.ensures c.if-verdict-ne-SERVED.false in
-          let s = c.args.self.0 in
-          written _ _ c.write-verdict.ensures c.if-verdict-ne-SERVED.false
-          (c.served-2.ensures ∙ ap (λ (h : Head). served 0 (moved s h)) (sym c.in-At.is))
-          (ap (λ (l : List ℕ). set l c.in-At.h 1) c.clear.ensures ∙ rw (c.in-At.is, ready.long)) in
+    let ready : (let a = c.args in Writable a.self.0.width a.self.0.picks a.self.0.head a.self.0.width (length a.image.now)) = writable _ _ _ _ _ c.write-verdict.ensures c.if-verdict-ne-SERVED.false in
+    let s = c.args.self.0 in
+    written _ _ c.write-verdict.ensures c.if-verdict-ne-SERVED.false
+    (c.served-2.ensures ∙ ap (λ (h : Head). served 0 (moved s h)) (sym c.in-At.is))
+    (ap (λ (l : List ℕ). set l c.in-At.h 1) c.clear.ensures ∙ rw (c.in-At.is, ready.long)) in
     record { value = both.0; image_after = both.1 }

@@ -2,7 +2,6 @@
 -- Assumes nothing.
 use mathlib.Core.Path.{ap, ◌∙◌}
 use lib.ListN.{length}
-use borrow.Author.Rules.{rules}
 use Rattle.arbiter.specs.declared.Decision.{Decision}
 use Rattle.arbiter.specs.Answers.{decided}
 use Rattle.arbiter.specs.Answers.Laws.{written, unwritten}
@@ -12,7 +11,7 @@ use Rattle.scan.proofs.Scan.cycle.Goals as goal
 pub returns-then-verdict-ne-SERVED : goal.returns-then-verdict-ne-SERVED
 returns-then-verdict-ne-SERVED c =
     let both =
-       unwritten _ _ _ (told (rw c.state-by_state.ensures at c.cycle-reading.ensures)) c.if-verdict-ne-SERVED.true c.refused.ensures in
+    unwritten _ _ _ (told (rw c.state-by_state.ensures at c.cycle-reading.ensures)) c.if-verdict-ne-SERVED.true c.refused.ensures in
     record { value = both.0; grants_after = both.1 }
 
 pub walk_round-decision-requires : goal.walk_round-decision-requires
@@ -29,8 +28,8 @@ walk_round-decision-requires c =
 pub returns : goal.returns
 returns c =
     let both =
-          let s = c.args.self.0 in
-          written _ _ (told (rw c.state-by_state.ensures at c.cycle-reading.ensures)) c.if-verdict-ne-SERVED.false
-          (c.served.ensures ∙ ap (λ (d : Decision). decided s d) c.walk_round-decision.ensures.value)
-          c.walk_round-decision.ensures.grants_after in
+    let s = c.args.self.0 in
+    written _ _ (told (rw c.state-by_state.ensures at c.cycle-reading.ensures)) c.if-verdict-ne-SERVED.false
+    (c.served.ensures ∙ ap (λ (d : Decision). decided s d) c.walk_round-decision.ensures.value)
+    c.walk_round-decision.ensures.grants_after in
     record { value = both.0; grants_after = both.1 }

@@ -3,7 +3,6 @@
 use mathlib.Core.Path.{◌∙◌}
 use native.Mathlib.Omega.{arith}
 use lib.ListN.{length, length-set}
-use borrow.Author.Rules.{rules}
 use Rattle.arbiter.specs.Questions.Laws.{Writable, writable}
 use Rattle.arbiter.specs.Answers.Laws.{written, unwritten}
 use Rattle.snapshot.specs.Calls.{size}
@@ -13,7 +12,7 @@ use Rattle.snapshot.proofs.Snapshot.write.Goals as goal
 pub returns-then-verdict-ne-SERVED : goal.returns-then-verdict-ne-SERVED
 returns-then-verdict-ne-SERVED c =
     let both =
-       let v = c.write-verdict.ensures in unwritten _ _ _ v c.if-verdict-ne-SERVED.true c.refused.ensures in
+    let v = c.write-verdict.ensures in unwritten _ _ _ v c.if-verdict-ne-SERVED.true c.refused.ensures in
     record { value = both.0; snapshot_after = both.1 }
 
 pub overflow_sub-last : goal.overflow_sub-last
@@ -73,15 +72,15 @@ shape_of-snapshot c = simp length-set
 pub returns : goal.returns
 returns c =
     let both =
-          let ready : (let a = c.args in Writable a.self.0.width a.self.0.picks a.self.0.head size (length a.snapshot.now)) = writable _ _ _ _ _ c.write-verdict.ensures c.if-verdict-ne-SERVED.false in
-          let last-high = c in
-          let last-low = last-high in
-          let first = last-low in
-          let e = first in
-          let a = e.args in
-          let s = a.self.0 in
-          let station = first.first_station-station.ensures in
-          written _ _ e.write-verdict.ensures e.if-verdict-ne-SERVED.false c.served.ensures
-          (six_set _ _ _ _ _ _ a.snapshot.now ready.long
-          ∙ six_saved s last-low.low.ensures last-high.high.ensures station c.low-2.ensures c.high-2.ensures c.mark.ensures) in
+    let ready : (let a = c.args in Writable a.self.0.width a.self.0.picks a.self.0.head size (length a.snapshot.now)) = writable _ _ _ _ _ c.write-verdict.ensures c.if-verdict-ne-SERVED.false in
+    let last-high = c in
+    let last-low = last-high in
+    let first = last-low in
+    let e = first in
+    let a = e.args in
+    let s = a.self.0 in
+    let station = first.first_station-station.ensures in
+    written _ _ e.write-verdict.ensures e.if-verdict-ne-SERVED.false c.served.ensures
+    (six_set _ _ _ _ _ _ a.snapshot.now ready.long
+    ∙ six_saved s last-low.low.ensures last-high.high.ensures station c.low-2.ensures c.high-2.ensures c.mark.ensures) in
     record { value = both.0; snapshot_after = both.1 }

@@ -1,8 +1,7 @@
 -- `reached` meets its contract: each node that it comes to is on the way down.
 -- Assumes nothing.
-use Prim.Native.Nat.{◌-◌, ◌*◌}
 use native.Mathlib.Omega.{arith}
-use Rattle.rules.specs.Tree.Laws.{OnWay, way_begins, way_goes_on, way_ends, child_low}
+use Rattle.rules.specs.Tree.Laws.{way_begins, way_goes_on, way_ends, child_low}
 use Rattle.tree.proofs.descent.reached.Goals as goal
 
 pub loop-u-init : goal.loop-u-init
@@ -10,10 +9,10 @@ loop-u-init c = way_begins _ _ c.requires.le_width
 
 pub child-u-requires : goal.child-u-requires
 child-u-requires c = record {
-      u_in_bounds = omega arith;
-      u_bound = c.requires.values _ (omega arith);
-      u_bound_2 = c.requires.values _ (omega arith);
-    }
+  u_in_bounds = omega arith;
+  u_bound = c.requires.values _ (omega arith);
+  u_bound_2 = c.requires.values _ (omega arith);
+}
 
 pub loop-u-smaller : goal.loop-u-smaller
 loop-u-smaller c =

@@ -1,8 +1,7 @@
 -- `reached` meets its contract: each node that it comes to is on the way down.
 -- Assumes nothing.
 use Prim.Native.Nat.{◌-◌, ◌*◌}
-use native.Mathlib.Omega.{arith}
-use Rattle.rules.specs.Tree.Laws.{OnWay, way_begins, way_goes_on, way_ends, child_low}
+use Rattle.rules.specs.Tree.Laws.{OnWay}
 use Rattle.tree.proofs.descent.reached.Given as goal
 
 abbrev pub invariant-loop-u : goal.invariant-loop-u

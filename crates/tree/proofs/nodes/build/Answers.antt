@@ -5,7 +5,6 @@ use mathlib.Core.Path.{◌≡◌, ap, ◌∙◌}
 use mathlib.Core.List.{map}
 use native.Mathlib.Omega.{arith}
 use lib.ListN.{drop}
-use borrow.Author.Rules.{rules}
 use Rattle.rules.specs.Lists.{range}
 use Rattle.rules.specs.Tree.{leaf, joined, nodes}
 use Rattle.arbiter.specs.Decisions.{requested}

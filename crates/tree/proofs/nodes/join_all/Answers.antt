@@ -1,12 +1,8 @@
 -- `join_all` meets its contract: the buffer is done from node u on.
 -- Assumes nothing.
-use Prim.Native.Nat.{◌-◌, ◌*◌}
 use mathlib.Core.Path.{◌≡◌, ◌∙◌}
 use native.Mathlib.Omega.{arith}
-use lib.ListN.{length, drop, length-set}
-use borrow.Author.Rules.{rules}
-use Rattle.rules.specs.Tree.{joined}
-use Rattle.tree.specs.Steps.{DoneFrom}
+use lib.ListN.{length-set}
 use Rattle.tree.proofs.Buffer.{done_begins, done_node, joined_all}
 use Rattle.tree.proofs.nodes.join_all.Goals as goal
 

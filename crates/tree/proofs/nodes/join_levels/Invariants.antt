@@ -1,13 +1,10 @@
 -- `join_levels` meets its contract: the buffer is done from node `low` on.
 -- Assumes nothing.
 use Prim.Native.Nat.{◌-◌, ◌*◌}
-use mathlib.Core.Path.{◌≡◌, refl, ◌∙◌}
-use native.Mathlib.Omega.{arith}
+use mathlib.Core.Path.{◌≡◌}
 use lib.ListN.{length, drop}
 use Rattle.rules.specs.Tree.{joined}
-use borrow.Author.Rules.{rules}
 use Rattle.tree.specs.Steps.{max_pairs, DoneFrom}
-use Rattle.tree.proofs.Buffer.{done_begins, done_level}
 use Rattle.tree.proofs.nodes.join_levels.Given as goal
 
 abbrev pub invariant-loop-low : goal.invariant-loop-low

@@ -1,11 +1,9 @@
 -- `join_pairs` meets its contract: the nodes up to u are joined.
 -- Assumes nothing.
-use Prim.Native.Nat.{◌+◌, ◌-◌, ◌*◌, ◌≤◌}
-use mathlib.Core.Path.{◌≡◌, refl, ◌∙◌}
-use native.Mathlib.Omega.{arith}
-use lib.ListN.{length, get_or, length-set}
+use Prim.Native.Nat.{◌-◌, ◌≤◌}
+use mathlib.Core.Path.{◌≡◌}
+use lib.ListN.{length}
 use Rattle.tree.specs.Steps.{Level}
-use Rattle.tree.proofs.Buffer.{Unpacked, unpacked, level_none, level_more}
 use Rattle.tree.proofs.nodes.join_pairs.Given as goal
 
 abbrev pub invariant-loop-u : goal.invariant-loop-u

@@ -3,7 +3,6 @@
 use Prim.Native.Nat.{◌<◌}
 use mathlib.Core.Path.{ap}
 use native.Mathlib.Omega.{arith}
-use borrow.Author.Rules.{rules}
 use Rattle.rules.specs.RoundRobin.{start}
 use Rattle.rules.specs.RoundRobin.Laws.{start_at}
 use Rattle.tree.proofs.Buffer.{request_bit, marked_none, marked_at}

@@ -1,8 +1,7 @@
 -- `read_pairs` meets its contract: the pairs of the nodes up to u are written.
 -- Assumes nothing.
-use Prim.Native.Nat.{◌+◌, ◌-◌, ◌*◌, ◌≤◌}
+use Prim.Native.Nat.{◌+◌, ◌*◌}
 use native.Mathlib.Omega.{arith}
-use Rattle.tree.specs.Steps.{Pairs}
 use Rattle.tree.proofs.Buffer.{pairs_more}
 use Rattle.tree.proofs.nodes.read_pairs.Goals as goal
 

@@ -1,9 +1,7 @@
 -- `read_pairs` meets its contract: the pairs of the nodes up to u are written.
 -- Assumes nothing.
-use Prim.Native.Nat.{◌+◌, ◌-◌, ◌*◌, ◌≤◌}
-use native.Mathlib.Omega.{arith}
+use Prim.Native.Nat.{◌-◌, ◌≤◌}
 use Rattle.tree.specs.Steps.{Pairs}
-use Rattle.tree.proofs.Buffer.{pairs_more}
 use Rattle.tree.proofs.nodes.read_pairs.Given as goal
 
 abbrev pub invariant-loop-u : goal.invariant-loop-u

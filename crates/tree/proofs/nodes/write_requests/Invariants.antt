@@ -1,12 +1,8 @@
 -- `write_requests` meets its contract: the stations' nodes up to i are written.
 -- Assumes nothing.
 use Prim.Native.Nat.{ℕ, ◌+◌, ◌-◌, ◌*◌, ◌≤◌, ◌<◌}
-use mathlib.Core.Path.{◌≡◌, ◌∙◌}
-use native.Mathlib.Omega.{arith}
-use lib.ListN.{length, get_or, length-set}
-use lib.Seq.{get_or-set_same, get_or-set_other}
-use borrow.Author.Count.{below_more}
-use Rattle.tree.proofs.Buffer.{stations}
+use mathlib.Core.Path.{◌≡◌}
+use lib.ListN.{length, get_or}
 use Rattle.tree.proofs.nodes.write_requests.Given as goal
 
 abbrev pub invariant-loop-i : goal.invariant-loop-i

@@ -2,7 +2,6 @@
 -- Assumes nothing.
 use mathlib.Core.Bool.{Bool}
 use mathlib.Core.Path.{ap, ◌∙◌}
-use borrow.Author.Rules.{rules}
 use Rattle.arbiter.specs.Questions.{refuse_unless}
 use Rattle.tree.proofs.Sizes.{power_test}
 use Rattle.tree.proofs.question.tree_width.Goals as goal
