@@ -1,18 +1,14 @@
 -- `arbitrate` meets its contract.
 -- Assumes nothing.
-use Prim.Native.Nat.{ℕ, min, ◌+◌, ◌≤◌, ◌<◌}
+use Prim.Native.Nat.{ℕ, min, ◌≤◌}
 use mathlib.Core.Path.{◌≡◌, sym, ap, ◌∙◌}
-use mathlib.Core.Bool.{true}
 use native.Mathlib.Omega.{arith}
 use lib.Count.{ones}
-use lib.ListN.{length, replicate, length-take}
-use borrow.Author.Rules.{rules}
-use Rattle.rules.specs.RoundRobin.{start}
-use Rattle.rules.specs.Thermometer.{code, is_code}
+use lib.ListN.{replicate, length-take}
+use Rattle.rules.specs.Thermometer.{code}
 use Rattle.rules.specs.Thermometer.Laws.{full_is_code, full_ones}
 use Rattle.arbiter.specs.Decisions.Laws.{quiet_decides, quiet_grants}
-use Rattle.arbiter.specs.Places.{Bits, highest}
-use Rattle.arbiter.specs.Questions.{max_width}
+use Rattle.arbiter.specs.Places.{highest}
 use Rattle.kogge_stone.proofs.arbitrate.Goals as goal
 
 pub returns-then-high-eq0 : goal.returns-then-high-eq0

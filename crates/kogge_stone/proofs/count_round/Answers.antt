@@ -6,7 +6,6 @@ use mathlib.Core.List.{List, [], ◌∷◌, ◌++◌, append-nil}
 use native.Mathlib.Omega.{arith}
 use lib.ListN.{length, take, drop, set, length-append, length-take, length-drop, length-set}
 use lib.Seq.{drop-length}
-use borrow.Author.Rules.{rules}
 use Rattle.rules.specs.KoggeStone.Laws as Network
 use Rattle.kogge_stone.proofs.count_round.Goals as goal
 
@@ -38,9 +37,9 @@ read_off-requires c =
       requests_len_bound = c.requires.requests_len_bound;
       grants_len = omega (arith, c.run.auto);
       counts_value = led a.counts.now _ (omega arith)
-                ∙ ap {B = List ℕ} (λ l. 0 ∷ l) c.run.ensures
-                ∙ sym (Network.counts_shifted _ _ a.head _)
-                ∙ Network.counts_running _ _ a.head _ (omega arith);
+          ∙ ap {B = List ℕ} (λ l. 0 ∷ l) c.run.ensures
+          ∙ sym (Network.counts_shifted _ _ a.head _)
+          ∙ Network.counts_running _ _ a.head _ (omega arith);
     }
 
 pub shape_of-counts : goal.shape_of-counts

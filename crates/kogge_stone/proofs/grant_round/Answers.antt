@@ -2,7 +2,6 @@
 -- Assumes nothing.
 use mathlib.Core.Path.{ap, ◌∙◌}
 use native.Mathlib.Omega.{arith}
-use borrow.Author.Rules.{rules}
 use Rattle.kogge_stone.specs.Steps.{granted_from}
 use Rattle.kogge_stone.proofs.Grants as Grants
 use Rattle.kogge_stone.proofs.grant_round.Goals as goal

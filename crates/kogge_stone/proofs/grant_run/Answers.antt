@@ -1,11 +1,8 @@
 -- `grant_run` meets its contract: up to station from + i the grants are written, from there on the bytes are the former ones.
 -- Assumes nothing.
-use Prim.Native.Nat.{◌+◌, ◌-◌, ◌≤◌}
+use Prim.Native.Nat.{◌+◌, ◌-◌}
 use mathlib.Core.Path.{◌≡◌, sym, ◌∙◌}
 use native.Mathlib.Omega.{arith}
-use lib.ListN.{length}
-use borrow.Author.Rules.{rules}
-use Rattle.kogge_stone.specs.Steps.{granted_from}
 use Rattle.kogge_stone.proofs.Fill as Fill
 use Rattle.kogge_stone.proofs.Fill.{Filled}
 use Rattle.kogge_stone.proofs.Grants as Grants

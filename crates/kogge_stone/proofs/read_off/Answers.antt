@@ -1,10 +1,7 @@
 -- `read_off` meets its contract.
 -- Assumes nothing.
-use Prim.Native.Nat.{suc}
-use mathlib.Core.Path.{◌≡◌, ◌∙◌}
+use mathlib.Core.Path.{◌∙◌}
 use native.Mathlib.Omega.{arith}
-use lib.ListN.{length}
-use borrow.Author.Rules.{rules}
 use Rattle.kogge_stone.proofs.Counts as Counts
 use Rattle.kogge_stone.proofs.read_off.Goals as goal
 

@@ -4,7 +4,6 @@ use Prim.Native.Nat.{◌/◌, ◌<◌}
 use mathlib.Core.Path.{sym, ◌∙◌}
 use native.Mathlib.Omega.{arith}
 use lib.ListN.{length}
-use borrow.Author.Rules.{rules}
 use Rattle.packed_scan.specs.Lines.Laws.{set_home, some_entry, round_high, round_quiet, round_next, highest_zero, Next, next_some, next_none}
 use Rattle.packed_scan.proofs.first_request.Goals as goal
 

@@ -5,7 +5,6 @@ use mathlib.Core.Path.{◌≡◌, sym, ap, ◌∙◌}
 use mathlib.Core.List.{List, ◌++◌}
 use native.Mathlib.Omega.{arith}
 use lib.ListN.{length, set, replicate, length-replicate}
-use borrow.Author.Rules.{rules}
 use Rattle.rules.specs.declared.Head.TheVariants.{At}
 use Rattle.rules.specs.Packing.{packed_length}
 use Rattle.rules.specs.RoundRobin.{start}

@@ -1,7 +1,6 @@
 -- `ahead` meets its contract.
 -- Assumes nothing.
 use mathlib.Core.Path.{◌∙◌}
-use borrow.Author.Rules.{rules}
 use Rattle.reference.specs.Turns.{ahead}
 use Rattle.reference.proofs.ahead.Goals as goal
 

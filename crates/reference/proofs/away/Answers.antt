@@ -2,7 +2,6 @@
 -- Assumes nothing.
 use borrow.Author.Tests.{lt-ltb, le-ltb}
 use Rattle.reference.specs.Turns.{away}
-use borrow.Author.Rules.{rules}
 use Rattle.reference.proofs.away.Goals as goal
 
 pub returns-then-width-start : goal.returns-then-width-start

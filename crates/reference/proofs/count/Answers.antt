@@ -5,7 +5,6 @@ use Prim.Native.Nat.{ℕ, ◌-◌}
 use mathlib.Core.Path.{◌≡◌, ap, ◌∙◌}
 use Rattle.reference.specs.Count.{tally, lesser}
 use Rattle.reference.specs.Turns.{asks, count}
-use borrow.Author.Rules.{rules}
 use Rattle.reference.proofs.count.Goals as goal
 
 pub returns : goal.returns

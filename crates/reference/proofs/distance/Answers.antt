@@ -2,7 +2,6 @@
 -- Assumes nothing.
 use borrow.Author.Tests.{lt-ltb, le-ltb, le-leb, lt-leb}
 use Rattle.reference.specs.Turns.{distance}
-use borrow.Author.Rules.{rules}
 use Rattle.reference.proofs.distance.Goals as goal
 
 pub returns-then-width-start : goal.returns-then-width-start

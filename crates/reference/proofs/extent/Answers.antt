@@ -5,7 +5,6 @@ use Prim.Native.Nat.{ℕ, ◌+◌}
 use mathlib.Core.Path.{sym, ap, ◌∙◌}
 use Rattle.reference.specs.Turns.{extent}
 use Rattle.reference.specs.Turns.Laws.{distance_le}
-use borrow.Author.Rules.{rules}
 use Rattle.reference.proofs.extent.Goals as goal
 
 pub overflow_add-result : goal.overflow_add-result

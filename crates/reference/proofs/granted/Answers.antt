@@ -1,7 +1,6 @@
 -- `granted` meets its contract.
 -- Assumes nothing.
 use Rattle.reference.specs.Turns.{granted}
-use borrow.Author.Rules.{rules}
 use Rattle.reference.proofs.granted.Goals as goal
 
 pub returns : goal.returns

@@ -2,7 +2,6 @@
 -- Assumes nothing.
 use native.Mathlib.Omega.{arith}
 use Rattle.reference.specs.Turns.{idle}
-use borrow.Author.Rules.{rules}
 use Rattle.reference.proofs.idle.Goals as goal
 
 pub returns-then-headed : goal.returns-then-headed

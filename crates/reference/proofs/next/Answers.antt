@@ -6,7 +6,6 @@ use mathlib.Core.Bool.{true, false, cond}
 use lib.Dec.{eqb}
 use borrow.Author.Tests.{eq-eqb, ne_eqb}
 use Rattle.reference.specs.Turns.{reach, away, next}
-use borrow.Author.Rules.{rules}
 use Rattle.reference.proofs.next.Goals as goal
 
 pub returns-then-reach-eq0 : goal.returns-then-reach-eq0

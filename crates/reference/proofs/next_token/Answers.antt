@@ -7,7 +7,6 @@ use mathlib.Core.Bool.{true, false, ◌&&◌}
 use lib.Dec.{ltb}
 use Rattle.reference.specs.Count.{tally}
 use Rattle.reference.specs.Turns.{asks, next_token}
-use borrow.Author.Rules.{rules}
 use Rattle.reference.proofs.next_token.Goals as goal
 
 pub returns-then-requesters-acknowledged : goal.returns-then-requesters-acknowledged

@@ -5,7 +5,6 @@ use mathlib.Core.Path.{ap, ◌∙◌}
 use Prim.Native.Nat.{ℕ, ◌+◌}
 use Rattle.reference.specs.Turns.{some, inside, node}
 use Rattle.reference.specs.Turns.Laws.{some_le}
-use borrow.Author.Rules.{rules}
 use Rattle.reference.proofs.node.Goals as goal
 
 pub overflow_add-result : goal.overflow_add-result

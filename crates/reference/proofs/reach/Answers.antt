@@ -1,13 +1,10 @@
 -- `reach` meets its contract: the greatest is that of the stations passed.
 -- Assumes nothing.
 use native.Mathlib.Omega.{arith}
-use Prim.Native.Nat.{◌-◌, ◌≤◌}
 use mathlib.Core.Path.{◌≡◌, refl, ◌∙◌}
-use mathlib.Core.Logic.{⊎_elim}
 use Rattle.reference.specs.Count.{greatest}
 use Rattle.reference.specs.Count.Laws.{greatest_over, greatest_under}
-use Rattle.reference.specs.Turns.{extent, reach}
-use borrow.Author.Rules.{rules}
+use Rattle.reference.specs.Turns.{reach}
 use Rattle.reference.proofs.reach.Goals as goal
 use Rattle.reference.proofs.reach.Goals.{else-most-far, then-most-far}
 

@@ -1,19 +1,13 @@
 -- `count_run` meets its contract: at each station the run up to it is done, and the code is the running code before it.
 -- Assumes nothing.
-use Prim.Native.Nat.{ℕ, ◌≤◌, ◌-◌}
+use Prim.Native.Nat.{ℕ}
 use mathlib.Core.Path.{◌≡◌, refl, sym, ap, ◌∙◌}
-use mathlib.Core.Logic.{⊎_elim}
 use mathlib.Core.Bool.{true}
 use native.Mathlib.Omega.{arith}
-use lib.ListN.{length, get_or, length-set}
-use lib.Count.{ones}
-use borrow.Author.Rules.{rules}
+use lib.ListN.{get_or, length-set}
 use Rattle.rules.specs.Thermometer.{is_code, add}
 use Rattle.rules.specs.Thermometer.Laws.{full_is_code, full_ones, code_few}
-use Rattle.rules.specs.Walk as Walks
 use Rattle.rules.specs.Walk.Laws as Walk
-use Rattle.arbiter.specs.Decisions.{requested}
-use Rattle.thermometer.specs.Runs.{code_at}
 use Rattle.thermometer.specs.Runs.Laws.{code_first, code_next, code_coded, to_codes}
 use mir.Syntax.{fn₀}
 use Rattle.thermometer.specs.Trace.{trace, end, computes, calls, leaves, either, repeats}
@@ -68,20 +62,23 @@ loop-i-preserved c =
     let next =
     ap (λ (c : ℕ). add m c (get_or a.requests.now l.i 0)) l.invariant.3
     ∙ sym (code_next m a.requests.now a.from a.to a.walk.code l.i l.invariant.0 (omega arith) wire) in
-    elim c.if-sum-code.branch [ then-sum-code w ↦ rw (w.grants-is, w.code-is, w.last-is) (
-      omega arith,
-      omega arith,
-      simp length-set (omega arith),
-      sum ∙ next,
-      rw (← sum) at (Steps.granted _ _ _ coded wire _ _ _ _ _ l.i l.invariant.0 _ _ l.invariant.4 refl (rw sum at w.if-sum-code.true) (omega arith)),
-    ) | else-sum-code w ↦ let stays = rw sum at w.if-sum-code.false in
-    rw (w.grants-is, w.code-is, w.last-is) (
-      omega arith,
-      omega arith,
-      omega arith,
-      sym stays ∙ next,
-      Steps.passed_over _ _ _ coded wire _ _ _ _ _ l.i l.invariant.0 _ _ l.invariant.4 refl stays,
-    ) ]
+    elim c.if-sum-code.branch [
+      | then-sum-code w ↦ rw (w.grants-is, w.code-is, w.last-is) (
+        omega arith,
+        omega arith,
+        simp length-set (omega arith),
+        sum ∙ next,
+        rw (← sum) at (Steps.granted _ _ _ coded wire _ _ _ _ _ l.i l.invariant.0 _ _ l.invariant.4 refl (rw sum at w.if-sum-code.true) (omega arith)),
+      )
+      | else-sum-code w ↦ let stays = rw sum at w.if-sum-code.false in
+          rw (w.grants-is, w.code-is, w.last-is) (
+            omega arith,
+            omega arith,
+            omega arith,
+            sym stays ∙ next,
+            Steps.passed_over _ _ _ coded wire _ _ _ _ _ l.i l.invariant.0 _ _ l.invariant.4 refl stays,
+          )
+    ]
 
 pub returns : goal.returns
 returns c =

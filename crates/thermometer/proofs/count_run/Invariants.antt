@@ -1,23 +1,12 @@
 -- `count_run` meets its contract: at each station the run up to it is done, and the code is the running code before it.
 -- Assumes nothing.
-use Prim.Native.Nat.{ℕ, ◌≤◌, ◌-◌}
-use mathlib.Core.Path.{◌≡◌, refl, sym, ap, ◌∙◌}
-use mathlib.Core.Logic.{⊎_elim}
-use mathlib.Core.Bool.{true}
-use native.Mathlib.Omega.{arith}
-use lib.ListN.{length, get_or, length-set}
+use Prim.Native.Nat.{◌≤◌, ◌-◌}
+use mathlib.Core.Path.{◌≡◌}
+use lib.ListN.{length}
 use lib.Count.{ones}
-use borrow.Author.Rules.{rules}
-use Rattle.rules.specs.Thermometer.{is_code, add}
-use Rattle.rules.specs.Thermometer.Laws.{full_is_code, full_ones, code_few}
 use Rattle.rules.specs.Walk as Walks
-use Rattle.rules.specs.Walk.Laws as Walk
 use Rattle.arbiter.specs.Decisions.{requested}
 use Rattle.thermometer.specs.Runs.{code_at}
-use Rattle.thermometer.specs.Runs.Laws.{code_first, code_next, code_coded, to_codes}
-use Rattle.thermometer.specs.Trace.{trace, end, computes, calls, leaves, either, repeats}
-use Rattle.thermometer.proofs.Steps as Steps
-use Rattle.thermometer.proofs.count_run.Code as code
 use Rattle.thermometer.proofs.count_run.Given as goal
 
 abbrev pub invariant-loop-i : goal.invariant-loop-i

@@ -2,7 +2,7 @@
 -- Assumes nothing.
 use Rattle.std.specs.Prelude.{◌≡◌, refl, [], ◌∷◌}
 use mir.Syntax.{opd_true, place, op1, op2, rv_opd, bit_not, bit_and, skip, seq, assign, block, loop, cond, switch, exit, return, call, fn₀, Body, arm, default, no_default}
-use Rattle.thermometer.specs.Trace.{Trace, end, computes, calls, leaves, either, repeats, trace}
+use Rattle.thermometer.specs.Trace.{end, computes, calls, leaves, either, repeats, trace}
 
 -- a copy, and operations of one and of two operands
 copied : Body

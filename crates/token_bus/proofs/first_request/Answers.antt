@@ -1,7 +1,6 @@
 -- `first_request` meets its contract: first those from the token on, then all.
 -- Assumes nothing.
 use mathlib.Core.Path.{sym, ◌∙◌}
-use borrow.Author.Rules.{rules}
 use Rattle.token_bus.specs.Calls.Laws.{found_none, found_high, found_low}
 use Rattle.token_bus.proofs.first_request.Goals as goal
 

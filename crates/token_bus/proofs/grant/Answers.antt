@@ -5,7 +5,6 @@ use mathlib.Core.List.{List}
 use mathlib.Core.Path.{◌≡◌, sym, ap, ◌∙◌}
 use native.Mathlib.Omega.{arith}
 use lib.ListN.{length, set, length-replicate}
-use borrow.Author.Rules.{rules}
 use Rattle.rules.specs.declared.Head.TheVariants.{None, At}
 use Rattle.rules.specs.Bus as Bus
 use Rattle.arbiter.specs.Decisions.{requested}

@@ -3,7 +3,6 @@
 use mathlib.Core.Path.{sym, ap}
 use native.Mathlib.Omega.{arith}
 use lib.Seq.{length-take-le}
-use borrow.Author.Rules.{rules}
 use Rattle.text.specs.Output.Laws.{same_put}
 use Rattle.arbiter.specs.declared.Answer.{Answer}
 use Rattle.transcript.specs.Cycles.Laws.{opening_wide}

@@ -6,7 +6,6 @@ use mathlib.Core.List.{List, ◌++◌}
 use native.Mathlib.Omega.{arith}
 use lib.ListN.{length, take, drop, length-take}
 use lib.Seq.{length-take-le, take-take}
-use borrow.Author.Rules.{rules}
 use Rattle.text.specs.Output.{Put}
 use Rattle.text.specs.Output.Laws.{put_length, same_put, put_then, put_whole, put_start}
 use Rattle.transcript.specs.Lines as Lines
@@ -52,11 +51,11 @@ put_refusal-requires c = tt
 pub returns-then-read-gt-MAX_INPUT : goal.returns-then-read-gt-MAX_INPUT
 returns-then-read-gt-MAX_INPUT c =
     let both =
-          let array = c.args.input.now in
-          let read = c.args.read in
-          let size : length array ≡ read_size = omega arith in
-          let is = text_refused (take read array) (seen_longer array read size c.if-read-gt-MAX_INPUT.true) in
-          written array read size (omega arith) (same_put (sym is) (put_then c.put_all-at.ensures c.put_refusal.ensures)) in
+    let array = c.args.input.now in
+    let read = c.args.read in
+    let size : length array ≡ read_size = omega arith in
+    let is = text_refused (take read array) (seen_longer array read size c.if-read-gt-MAX_INPUT.true) in
+    written array read size (omega arith) (same_put (sym is) (put_then c.put_all-at.ensures c.put_refusal.ensures)) in
     record { value = both.0; output_after = both.1.0; counts = both.1.1.0; input_len = both.1.1.1 }
 
 pub slice_bounds-unended-end : goal.slice_bounds-unended-end
@@ -77,13 +76,13 @@ answer-requires c =
 pub returns : goal.returns
 returns c =
     let both =
-          let array = c.args.input.now in
-          let read = c.args.read in
-          let size : length array ≡ read_size = omega arith in
-          let l = c.if-read-gt-MAX_INPUT.false in
-          let e = c.unended-end.ensures in
-          let is = text_follows (take read array) (omega (arith, seen_whole array read size l, l)) in
-          let body = cut array read size c.unended-end.result l e.upper_bound e.input_value in
-          written array read size (omega arith)
-          (same_put (sym is) (put_then c.put_all-at.ensures (same_put (ap follows body) c.answer.ensures))) in
+    let array = c.args.input.now in
+    let read = c.args.read in
+    let size : length array ≡ read_size = omega arith in
+    let l = c.if-read-gt-MAX_INPUT.false in
+    let e = c.unended-end.ensures in
+    let is = text_follows (take read array) (omega (arith, seen_whole array read size l, l)) in
+    let body = cut array read size c.unended-end.result l e.upper_bound e.input_value in
+    written array read size (omega arith)
+    (same_put (sym is) (put_then c.put_all-at.ensures (same_put (ap follows body) c.answer.ensures))) in
     record { value = both.0; output_after = both.1.0; counts = both.1.1.0; input_len = both.1.1.1 }

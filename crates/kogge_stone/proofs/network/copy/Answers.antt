@@ -1,10 +1,8 @@
 -- `copy` meets its contract.
 -- Assumes nothing.
-use Prim.Native.Nat.{◌-◌}
 use mathlib.Core.Path.{refl}
 use native.Mathlib.Omega.{arith}
-use lib.ListN.{length, length-set}
-use borrow.Author.Rules.{rules}
+use lib.ListN.{length-set}
 use Rattle.kogge_stone.proofs.Fill as Fill
 use Rattle.kogge_stone.proofs.Fill.{Filled}
 use Rattle.kogge_stone.proofs.network.copy.Goals as goal

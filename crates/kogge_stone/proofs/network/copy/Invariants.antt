@@ -1,11 +1,7 @@
 -- `copy` meets its contract.
 -- Assumes nothing.
 use Prim.Native.Nat.{◌-◌}
-use mathlib.Core.Path.{refl}
-use native.Mathlib.Omega.{arith}
-use lib.ListN.{length, length-set}
-use borrow.Author.Rules.{rules}
-use Rattle.kogge_stone.proofs.Fill as Fill
+use lib.ListN.{length}
 use Rattle.kogge_stone.proofs.Fill.{Filled}
 use Rattle.kogge_stone.proofs.network.copy.Given as goal
 

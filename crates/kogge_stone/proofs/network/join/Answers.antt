@@ -2,7 +2,6 @@
 -- Assumes nothing.
 use native.Mathlib.Omega.{arith}
 use Rattle.kogge_stone.proofs.Codes.{product_fits, small, large}
-use borrow.Author.Rules.{rules}
 use Rattle.kogge_stone.proofs.network.join.Goals as goal
 
 pub overflow_mul-sum : goal.overflow_mul-sum

@@ -1,12 +1,11 @@
 -- `join_all` meets its contract: what is left of the network gives what the whole of it gives.
 -- Assumes nothing.
-use Prim.Native.Nat.{ℕ, ◌-◌, ◌≤◌}
+use Prim.Native.Nat.{ℕ}
 use mathlib.Core.Path.{◌≡◌, sym, ap, ◌∙◌}
 use mathlib.Core.List.{List}
 use native.Mathlib.Omega.{arith}
-use lib.Count.{ones}
 use lib.ListN.{length}
-use Rattle.rules.specs.KoggeStone.{distances, joined, levels}
+use Rattle.rules.specs.KoggeStone.{joined}
 use Rattle.rules.specs.KoggeStone.Laws as Network
 use Rattle.rules.specs.KoggeStone.Laws.{Left}
 use Rattle.kogge_stone.specs.Steps.{Codes}

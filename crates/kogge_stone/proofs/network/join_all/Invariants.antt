@@ -1,16 +1,12 @@
 -- `join_all` meets its contract: what is left of the network gives what the whole of it gives.
 -- Assumes nothing.
-use Prim.Native.Nat.{ℕ, ◌-◌, ◌≤◌}
-use mathlib.Core.Path.{◌≡◌, sym, ap, ◌∙◌}
-use mathlib.Core.List.{List}
-use native.Mathlib.Omega.{arith}
+use Prim.Native.Nat.{◌-◌, ◌≤◌}
+use mathlib.Core.Path.{◌≡◌}
 use lib.Count.{ones}
 use lib.ListN.{length}
-use Rattle.rules.specs.KoggeStone.{distances, joined, levels}
-use Rattle.rules.specs.KoggeStone.Laws as Network
+use Rattle.rules.specs.KoggeStone.{distances, levels}
 use Rattle.rules.specs.KoggeStone.Laws.{Left}
 use Rattle.kogge_stone.specs.Steps.{Codes}
-use Rattle.kogge_stone.proofs.Codes.{joined_codes}
 use Rattle.kogge_stone.proofs.network.join_all.Given as goal
 
 abbrev pub invariant-loop-distance : goal.invariant-loop-distance

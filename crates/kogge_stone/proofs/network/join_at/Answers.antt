@@ -1,12 +1,10 @@
 -- `join_at` meets its contract: up to position p the codes are joined, from there on they are as before.
 -- Assumes nothing.
-use Prim.Native.Nat.{◌-◌, ◌≤◌}
+use Prim.Native.Nat.{◌≤◌}
 use mathlib.Core.Path.{sym, ap, ◌∙◌}
 use native.Mathlib.Omega.{arith}
 use lib.Count.{ones}
-use lib.ListN.{length, length-set}
-use borrow.Author.Rules.{rules}
-use Rattle.rules.specs.KoggeStone.{joined}
+use lib.ListN.{length}
 use Rattle.rules.specs.KoggeStone.Laws as Network
 use Rattle.rules.specs.Thermometer.{add}
 use Rattle.kogge_stone.proofs.Codes.{every_code, filling_codes}

@@ -1,16 +1,9 @@
 -- `join_at` meets its contract: up to position p the codes are joined, from there on they are as before.
 -- Assumes nothing.
 use Prim.Native.Nat.{◌-◌, ◌≤◌}
-use mathlib.Core.Path.{sym, ap, ◌∙◌}
-use native.Mathlib.Omega.{arith}
 use lib.Count.{ones}
-use lib.ListN.{length, length-set}
-use borrow.Author.Rules.{rules}
+use lib.ListN.{length}
 use Rattle.rules.specs.KoggeStone.{joined}
-use Rattle.rules.specs.KoggeStone.Laws as Network
-use Rattle.rules.specs.Thermometer.{add}
-use Rattle.kogge_stone.proofs.Codes.{every_code, filling_codes}
-use Rattle.kogge_stone.proofs.Fill as Fill
 use Rattle.kogge_stone.proofs.Fill.{Filled}
 use Rattle.kogge_stone.proofs.network.join_at.Given as goal
 

@@ -7,7 +7,6 @@ use mathlib.Core.Path.{ap₂, ◌∙◌}
 use mathlib.Core.List.{List, ◌++◌}
 use lib.ListN.{length}
 use borrow.Rule.Slice.PartMut.{put_mid, post_of}
-use borrow.Author.Rules.{rules}
 use Rattle.kogge_stone.proofs.network.rotate.Goals as goal
 
 pub returns : goal.returns

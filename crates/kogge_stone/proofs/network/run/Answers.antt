@@ -1,7 +1,6 @@
 -- `run` meets its contract: the requests in the order go through the network.
 -- Assumes nothing.
 use native.Mathlib.Omega.{arith}
-use borrow.Author.Rules.{rules}
 use Rattle.kogge_stone.proofs.Order as Order
 use Rattle.kogge_stone.proofs.network.run.Goals as goal
 

@@ -2,7 +2,6 @@
 -- Assumes nothing.
 use mathlib.Core.Path.{sym, ◌∙◌}
 use native.Mathlib.Omega.{arith}
-use borrow.Author.Rules.{rules}
 use Rattle.rules.specs.Packing.Laws.{entry_none, entry_own}
 use Rattle.packed_scan.proofs.lines.entry.Goals as goal
 

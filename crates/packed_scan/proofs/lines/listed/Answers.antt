@@ -1,10 +1,9 @@
 -- `listed` meets its contract: each constant is the table's for its start line, which antt computes, so each of its entries is
 -- right.
 -- Assumes nothing.
-use Prim.Native.Nat.{ℕ, ◌≤◌, ◌<◌}
+use Prim.Native.Nat.{ℕ}
 use mathlib.Core.Path.{◌≡◌, refl, ap, ◌∙◌}
 use native.Mathlib.Omega.{arith}
-use borrow.Author.Rules.{rules}
 use Rattle.rules.specs.Packing.{first_line, entries}
 use Rattle.rules.specs.Packing.Laws.{entry_at}
 use Rattle.packed_scan.proofs.lines.listed.Goals as goal

@@ -5,7 +5,6 @@ use mathlib.Core.Bool.{false}
 use mathlib.Core.Path.{◌≡◌, sym, ap, ◌∙◌}
 use native.Mathlib.Omega.{arith}
 use lib.ListN.{length}
-use borrow.Author.Rules.{rules}
 use Rattle.arbiter.specs.Questions.{refuse_unless}
 use Rattle.packed_scan.specs.Calls.Laws.{unused_none, unused_at}
 use Rattle.packed_scan.specs.Lines.Laws.{set_past, set_home, set_none}

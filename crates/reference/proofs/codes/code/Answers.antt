@@ -4,7 +4,6 @@ use mathlib.Core.Path.{refl, sym}
 use mathlib.Core.List.{[], ◌∷◌}
 use lib.ListN.{get_or-eq_default}
 use Rattle.reference.specs.Codes.{code}
-use borrow.Author.Rules.{rules}
 use Rattle.reference.proofs.codes.code.Goals as goal
 
 pub returns-then-count-lt9 : goal.returns-then-count-lt9

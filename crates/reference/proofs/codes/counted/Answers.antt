@@ -1,15 +1,12 @@
 -- `counted` meets its contract: the count is that of the codes passed.
 -- Assumes nothing.
 use native.Mathlib.Omega.{arith}
-use Prim.Native.Nat.{ℕ, ◌+◌, ◌-◌, ◌≤◌}
+use Prim.Native.Nat.{ℕ, ◌-◌}
 use mathlib.Core.Path.{◌≡◌, refl, sym, ap, ◌∙◌}
-use mathlib.Core.Logic.{⊎_elim}
 use lib.Dec.{leb}
 use borrow.Author.Tests.{le-leb, lt-leb}
-use Rattle.reference.specs.Count.{tally}
 use Rattle.reference.specs.Count.Laws.{tally_none, tally_le, tally_pass, tally_skip}
-use Rattle.reference.specs.Codes.{code, reaches, counted}
-use borrow.Author.Rules.{rules}
+use Rattle.reference.specs.Codes.{reaches, counted}
 use Rattle.reference.proofs.codes.counted.Goals as goal
 use Rattle.reference.proofs.codes.counted.Goals.{else-code-byte, then-code-byte}
 

@@ -1,15 +1,9 @@
 -- `counted` meets its contract: the count is that of the codes passed.
 -- Assumes nothing.
-use native.Mathlib.Omega.{arith}
-use Prim.Native.Nat.{ℕ, ◌+◌, ◌-◌, ◌≤◌}
-use mathlib.Core.Path.{◌≡◌, refl, sym, ap, ◌∙◌}
-use mathlib.Core.Logic.{⊎_elim}
-use lib.Dec.{leb}
-use borrow.Author.Tests.{le-leb, lt-leb}
+use Prim.Native.Nat.{◌+◌, ◌-◌, ◌≤◌}
+use mathlib.Core.Path.{◌≡◌}
 use Rattle.reference.specs.Count.{tally}
-use Rattle.reference.specs.Count.Laws.{tally_none, tally_le, tally_pass, tally_skip}
-use Rattle.reference.specs.Codes.{code, reaches, counted}
-use borrow.Author.Rules.{rules}
+use Rattle.reference.specs.Codes.{reaches}
 use Rattle.reference.proofs.codes.counted.Given as goal
 
 abbrev pub invariant-loop-c : goal.invariant-loop-c

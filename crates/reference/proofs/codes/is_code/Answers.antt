@@ -3,7 +3,6 @@
 use mathlib.Core.Path.{◌∙◌, ap}
 use borrow.Author.Tests.{le-leb, lt-leb}
 use Rattle.reference.specs.Codes.{code, allowed, is_code}
-use borrow.Author.Rules.{rules}
 use Rattle.reference.proofs.codes.is_code.Goals as goal
 
 pub returns-then-picks-lt1 : goal.returns-then-picks-lt1

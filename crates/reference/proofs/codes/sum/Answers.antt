@@ -8,7 +8,6 @@ use Rattle.reference.specs.Count.{lesser}
 use Rattle.reference.specs.Count.Laws.{both, tally_le}
 use Rattle.reference.specs.Codes.{reaches, code, counted, is_code, sum}
 use Rattle.reference.specs.Codes.Laws.{code_picks}
-use borrow.Author.Rules.{rules}
 use Rattle.reference.proofs.codes.sum.Goals as goal
 
 pub counted-requires : goal.counted-requires

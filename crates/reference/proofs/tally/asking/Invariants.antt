@@ -1,13 +1,9 @@
 -- `asking` meets its contract: the count is that of the stations passed.
 -- Assumes nothing.
-use native.Mathlib.Omega.{arith}
 use Prim.Native.Nat.{◌-◌, ◌≤◌}
-use mathlib.Core.Path.{◌≡◌, sym, ◌∙◌}
-use mathlib.Core.Logic.{⊎_elim}
+use mathlib.Core.Path.{◌≡◌}
 use Rattle.reference.specs.Count.{tally}
-use Rattle.reference.specs.Count.Laws.{tally_none, tally_le, tally_pass, tally_skip}
 use Rattle.reference.specs.Turns.{asks}
-use borrow.Author.Rules.{rules}
 use Rattle.reference.proofs.tally.asking.Given as goal
 
 abbrev pub invariant-loop-i : goal.invariant-loop-i

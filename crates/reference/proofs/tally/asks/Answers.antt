@@ -3,7 +3,6 @@
 use mathlib.Core.Path.{refl}
 use lib.ListN.{get_or-eq_default}
 use Rattle.reference.specs.Turns.{asks}
-use borrow.Author.Rules.{rules}
 use Rattle.reference.proofs.tally.asks.Goals as goal
 
 pub returns-then-station-requests : goal.returns-then-station-requests

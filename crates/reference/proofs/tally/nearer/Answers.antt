@@ -1,15 +1,12 @@
 -- `nearer` meets its contract: the count is that of the stations passed.
 -- Assumes nothing.
 use native.Mathlib.Omega.{arith}
-use Prim.Native.Nat.{◌-◌, ◌≤◌}
+use Prim.Native.Nat.{◌-◌}
 use mathlib.Core.Path.{◌≡◌, refl, sym, ◌∙◌}
-use mathlib.Core.Logic.{⊎_elim}
 use mathlib.Core.Bool.{◌&&◌}
 use lib.Dec.{ltb}
-use Rattle.reference.specs.Count.{tally}
 use Rattle.reference.specs.Count.Laws.{tally_none, tally_le, tally_pass, tally_skip}
 use Rattle.reference.specs.Turns.{before, nearer}
-use borrow.Author.Rules.{rules}
 use Rattle.reference.proofs.tally.nearer.Goals as goal
 use Rattle.reference.proofs.tally.nearer.Goals.{else-asks-distance, then-asks-distance}
 

@@ -1,15 +1,9 @@
 -- `nearer` meets its contract: the count is that of the stations passed.
 -- Assumes nothing.
-use native.Mathlib.Omega.{arith}
 use Prim.Native.Nat.{◌-◌, ◌≤◌}
-use mathlib.Core.Path.{◌≡◌, refl, sym, ◌∙◌}
-use mathlib.Core.Logic.{⊎_elim}
-use mathlib.Core.Bool.{◌&&◌}
-use lib.Dec.{ltb}
+use mathlib.Core.Path.{◌≡◌}
 use Rattle.reference.specs.Count.{tally}
-use Rattle.reference.specs.Count.Laws.{tally_none, tally_le, tally_pass, tally_skip}
-use Rattle.reference.specs.Turns.{before, nearer}
-use borrow.Author.Rules.{rules}
+use Rattle.reference.specs.Turns.{before}
 use Rattle.reference.proofs.tally.nearer.Given as goal
 
 abbrev pub invariant-loop-i : goal.invariant-loop-i

@@ -2,7 +2,6 @@
 -- Assumes nothing.
 use mathlib.Core.Path.{◌≡◌, refl, ap, ◌∙◌}
 use lib.ListN.{length}
-use borrow.Author.Rules.{rules}
 use Rattle.arbiter.specs.declared.Decision.{Decision}
 use Rattle.arbiter.specs.Answers.{decided}
 use Rattle.arbiter.specs.Answers.Laws.{written, unwritten}
@@ -15,7 +14,7 @@ use Rattle.thermometer.proofs.Thermometer.cycle.Goals as goal
 pub returns-then-verdict-ne-SERVED : goal.returns-then-verdict-ne-SERVED
 returns-then-verdict-ne-SERVED c =
     let both =
-       let q = c in unwritten _ _ _ (told (rw q.state-by_state.ensures at q.cycle-reading.ensures)) c.if-verdict-ne-SERVED.true c.refused.ensures in
+    let q = c in unwritten _ _ _ (told (rw q.state-by_state.ensures at q.cycle-reading.ensures)) c.if-verdict-ne-SERVED.true c.refused.ensures in
     record { value = both.0; grants_after = both.1 }
 
 pub count_round-decision-requires : goal.count_round-decision-requires
@@ -35,13 +34,13 @@ count_round-decision-requires c =
 pub returns : goal.returns
 returns c =
     let both =
-          let w = c in
-          let e = w in
-          let q = e in
-          let s = q.args.self.0 in
-          written _ _ (told (rw q.state-by_state.ensures at q.cycle-reading.ensures)) e.if-verdict-ne-SERVED.false
-          (c.served.ensures ∙ ap (λ (d : Decision). decided s d) w.count_round-decision.ensures.value)
-          w.count_round-decision.ensures.grants_after in
+    let w = c in
+    let e = w in
+    let q = e in
+    let s = q.args.self.0 in
+    written _ _ (told (rw q.state-by_state.ensures at q.cycle-reading.ensures)) e.if-verdict-ne-SERVED.false
+    (c.served.ensures ∙ ap (λ (d : Decision). decided s d) w.count_round-decision.ensures.value)
+    w.count_round-decision.ensures.grants_after in
     record { value = both.0; grants_after = both.1 }
 
 -- N3, read off the code: a cycle counts once

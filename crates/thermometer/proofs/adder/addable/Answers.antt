@@ -1,7 +1,6 @@
 -- `addable` meets its contract: the questions in their order.
 -- Assumes nothing.
 use mathlib.Core.Path.{◌∙◌}
-use borrow.Author.Rules.{rules}
 use Rattle.arbiter.specs.Questions.Laws.{chained}
 use Rattle.thermometer.proofs.adder.addable.Goals as goal
 

@@ -4,7 +4,6 @@ use Prim.Native.Nat.{min}
 use mathlib.Core.Path.{◌≡◌}
 use native.Mathlib.Omega.{arith}
 use lib.Pow.{pow_pos, pow-lt}
-use borrow.Author.Rules.{rules}
 use Rattle.rules.specs.Thermometer.{code}
 use Rattle.thermometer.proofs.adder.code.Goals as goal
 

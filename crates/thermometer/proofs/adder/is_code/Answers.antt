@@ -3,7 +3,6 @@
 use Prim.Native.Nat.{◌-◌}
 use native.Mathlib.Omega.{arith}
 use lib.Count.{trailing_le}
-use borrow.Author.Rules.{rules}
 use Rattle.thermometer.proofs.Codes.{trailing_code}
 use Rattle.thermometer.proofs.adder.is_code.Goals as goal
 

@@ -4,7 +4,6 @@ use Prim.Native.Nat.{◌+◌, min}
 use mathlib.Core.Path.{◌≡◌, ap, ◌∙◌}
 use native.Mathlib.Omega.{arith}
 use lib.Count.{ones, ones-le}
-use borrow.Author.Rules.{rules}
 use Rattle.rules.specs.Thermometer.{code, add}
 use Rattle.thermometer.proofs.adder.join.Goals as goal
 

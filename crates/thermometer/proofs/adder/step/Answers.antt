@@ -5,7 +5,6 @@ use mathlib.Core.Path.{◌≡◌, refl}
 use native.Mathlib.Omega.{arith}
 use native.Mathlib.Nat.{mul-le-mul_left}
 use lib.Bits.{and_le_r}
-use borrow.Author.Rules.{rules}
 use Rattle.thermometer.specs.Trace.{trace, end, computes, leaves}
 use Rattle.thermometer.proofs.Codes.{step_adds}
 use Rattle.thermometer.proofs.adder.step.Code as code

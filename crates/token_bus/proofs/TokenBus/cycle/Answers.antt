@@ -3,7 +3,6 @@
 use Prim.Native.Nat.{ℕ}
 use mathlib.Core.Path.{sym, ap, ◌∙◌}
 use lib.ListN.{length}
-use borrow.Author.Rules.{rules}
 use Rattle.rules.specs.Bus as Bus
 use Rattle.arbiter.specs.declared.Decision.{Decision}
 use Rattle.arbiter.specs.declared.question.Verdict.{Verdict}
@@ -19,7 +18,7 @@ use Rattle.token_bus.proofs.TokenBus.cycle.Goals as goal
 pub returns-then-verdict-ne-SERVED : goal.returns-then-verdict-ne-SERVED
 returns-then-verdict-ne-SERVED c =
     let both =
-          unwritten _ _ _ (chained c.then-verdict.ensures (told (rw c.state-by_state.ensures at c.cycle-reading.ensures)) c.acknowledge.ensures) c.if-verdict-ne-SERVED.true c.refused.ensures in
+    unwritten _ _ _ (chained c.then-verdict.ensures (told (rw c.state-by_state.ensures at c.cycle-reading.ensures)) c.acknowledge.ensures) c.if-verdict-ne-SERVED.true c.refused.ensures in
     record { value = both.0; grants_after = both.1 }
 
 pub grant-decision-requires : goal.grant-decision-requires
@@ -36,12 +35,12 @@ grant-decision-requires c =
 pub returns : goal.returns
 returns c =
     let both =
-          let a = c.args in
-          let s = a.self.0 in
-          let asks = asking s a.requests.now in
-          written _ _ (chained c.then-verdict.ensures (told (rw c.state-by_state.ensures at c.cycle-reading.ensures)) c.acknowledge.ensures) c.if-verdict-ne-SERVED.false
-          (c.served.ensures
-          ∙ ap (λ (d : Decision). decided s d)
-          (c.grant-decision.ensures.value ∙ ap (λ (c : ℕ). decision s.width c (Bus.acknowledged a.acknowledge) asks) c.first_station-token.ensures))
-          (c.grant-decision.ensures.grants_after ∙ ap (λ (c : ℕ). Bus.grants s.width c asks) c.first_station-token.ensures) in
+    let a = c.args in
+    let s = a.self.0 in
+    let asks = asking s a.requests.now in
+    written _ _ (chained c.then-verdict.ensures (told (rw c.state-by_state.ensures at c.cycle-reading.ensures)) c.acknowledge.ensures) c.if-verdict-ne-SERVED.false
+    (c.served.ensures
+    ∙ ap (λ (d : Decision). decided s d)
+    (c.grant-decision.ensures.value ∙ ap (λ (c : ℕ). decision s.width c (Bus.acknowledged a.acknowledge) asks) c.first_station-token.ensures))
+    (c.grant-decision.ensures.grants_after ∙ ap (λ (c : ℕ). Bus.grants s.width c asks) c.first_station-token.ensures) in
     record { value = both.0; grants_after = both.1 }

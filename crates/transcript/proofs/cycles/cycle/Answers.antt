@@ -2,11 +2,10 @@
 -- Assumes nothing.
 use Prim.Native.Nat.{ℕ, ◌+◌}
 use mathlib.Core.Path.{◌≡◌, sym, ap, ◌∙◌}
-use mathlib.Core.Bool.{Bool, true, false, not, true≢false}
+use mathlib.Core.Bool.{true}
 use mathlib.Core.List.{List, map}
 use lib.ListN.{length, take, get_or, length-map}
 use lib.Seq.{length-take-le}
-use borrow.Author.Rules.{rules}
 use Rattle.arbiter.specs.declared.State.{State}
 use Rattle.arbiter.specs.Questions.{max_width}
 use Rattle.transcript.specs.declared.first_line.Kind.{Kind}
@@ -27,9 +26,9 @@ read_length e s line t b =
 pub returns-then-not-well_formed : goal.returns-then-not-well_formed
 returns-then-not-well_formed c =
     let both =
-          let a = c.args in
-          told (cycle_refused a.kind a.s a.line.now (sym c.well_formed-2.ensures ∙ c.if-not-well_formed.true))
-          (c.refused.ensures ∙ rw c.refuse_unless.ensures) c.requires.grants_value in
+    let a = c.args in
+    told (cycle_refused a.kind a.s a.line.now (sym c.well_formed-2.ensures ∙ c.if-not-well_formed.true))
+    (c.refused.ensures ∙ rw c.refuse_unless.ensures) c.requires.grants_value in
     record { value = both.0; grants_after = both.1 }
 
 pub slice_bounds-read_wires-end : goal.slice_bounds-read_wires-end
@@ -54,18 +53,18 @@ slice_bounds-call-end c = again_length max_width c.read_wires.new.requests (read
 
 pub call-requires : goal.call-requires
 call-requires c = record {
-      width_le_max_width = c.requires.width_le_max_width;
-      line_value = sym c.well_formed-2.ensures ∙ c.if-not-well_formed.false;
-      grants_value = c.requires.grants_value;
-    }
+  width_le_max_width = c.requires.width_le_max_width;
+  line_value = sym c.well_formed-2.ensures ∙ c.if-not-well_formed.false;
+  grants_value = c.requires.grants_value;
+}
 
 pub returns : goal.returns
 returns c =
     let both =
-          let a = c.args in
-          let n = a.s.width in
-          let byte = wire (get_or a.line.now (n + 1) 0) in
-          let long = read_length a.kind a.s a.line.now (sym c.well_formed-2.ensures ∙ c.if-not-well_formed.false) c.read_wires.ensures in
-          told_of (λ requests. called a.kind a.s requests byte) (again max_width c.read_wires.new.requests long ∙ c.read_wires.ensures)
-          (cycle_called a.kind a.s a.line.now (sym c.well_formed-2.ensures ∙ c.if-not-well_formed.false)) c.call.ensures.value c.call.ensures.grants_after in
+    let a = c.args in
+    let n = a.s.width in
+    let byte = wire (get_or a.line.now (n + 1) 0) in
+    let long = read_length a.kind a.s a.line.now (sym c.well_formed-2.ensures ∙ c.if-not-well_formed.false) c.read_wires.ensures in
+    told_of (λ requests. called a.kind a.s requests byte) (again max_width c.read_wires.new.requests long ∙ c.read_wires.ensures)
+    (cycle_called a.kind a.s a.line.now (sym c.well_formed-2.ensures ∙ c.if-not-well_formed.false)) c.call.ensures.value c.call.ensures.grants_after in
     record { value = both.0; grants_after = both.1 }

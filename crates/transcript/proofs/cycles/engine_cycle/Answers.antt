@@ -7,7 +7,6 @@ use native.Mathlib.Omega.{arith}
 use Rattle.arbiter.specs.Questions.{max_width}
 use Rattle.engines.specs.Calls as Engines
 use Rattle.transcript.proofs.Zeros.{front_zeros, front_length}
-use borrow.Author.Rules.{rules}
 use Rattle.transcript.proofs.cycles.engine_cycle.Goals as goal
 
 pub slice_bounds-cycle-end : goal.slice_bounds-cycle-end

@@ -4,7 +4,6 @@ use Prim.Native.Nat.{ℕ}
 use mathlib.Core.Path.{◌≡◌, refl, sym, ap, ◌∙◌}
 use mathlib.Core.List.{List}
 use lib.ListN.{length}
-use borrow.Author.Rules.{rules}
 use Rattle.rules.specs.RoundRobin.{start}
 use Rattle.text.specs.Output.Laws.{same_put}
 use Rattle.arbiter.specs.declared.Answer.{Answer}
@@ -35,9 +34,9 @@ slice_bounds-cycle-end c = front_length c.args.run.state.width max_width c.requi
 
 pub cycle-answer-requires : goal.cycle-answer-requires
 cycle-answer-requires c = record {
-      width_le_max_width = c.requires.width_le_max_width;
-      grants_value = front_zeros c.args.run.state.width max_width c.requires.width_le_max_width;
-    }
+  width_le_max_width = c.requires.width_le_max_width;
+  grants_value = front_zeros c.args.run.state.width max_width c.requires.width_le_max_width;
+}
 
 pub put_refusal-at-requires : goal.put_refusal-at-requires
 put_refusal-at-requires c = tt

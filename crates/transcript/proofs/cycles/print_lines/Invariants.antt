@@ -1,12 +1,10 @@
 -- `transcript::cycles::print_lines` meets its contract. The loop's invariant: the lines before `start` are printed.
 -- Assumes nothing.
 use Prim.Native.Nat.{◌-◌, ◌+◌}
-use native.Mathlib.Omega.{arith}
 use lib.ListN.{length}
-use Rattle.text.specs.Output.Laws.{put_length}
 use Rattle.transcript.specs.Lines.{lines_from}
 use Rattle.transcript.specs.Cycles as Cycles
-use Rattle.transcript.proofs.Runs.{Ran, none_ran, all_ran, one_ran}
+use Rattle.transcript.proofs.Runs.{Ran}
 use Rattle.transcript.proofs.cycles.print_lines.Given as goal
 
 abbrev pub invariant-loop-start : goal.invariant-loop-start

@@ -2,7 +2,6 @@
 -- Assumes nothing.
 use mathlib.Core.Path.{sym}
 use native.Mathlib.Omega.{arith}
-use borrow.Author.Rules.{rules}
 use Rattle.transcript.specs.FirstLine.Laws.{first_short, first_unspaced, first_single, first_read}
 use Rattle.transcript.proofs.first_line.read.Goals as goal
 

@@ -1,9 +1,7 @@
 -- `transcript::first_line::read_number` meets its contract.
 -- Assumes nothing.
 use mathlib.Core.Path.{sym, ◌∙◌}
-use mathlib.Core.Logic.{⊎_elim}
 use native.Mathlib.Omega.{arith}
-use borrow.Author.Rules.{rules}
 use Rattle.transcript.specs.FirstLine.Laws.{number_empty, number_long, number_zero, number_one, number_more}
 use Rattle.transcript.proofs.first_line.read_number.Goals as goal
 use Rattle.transcript.proofs.first_line.read_number.Goals.{else-digits-gt1, then-digits-gt1+else-digits-le48}

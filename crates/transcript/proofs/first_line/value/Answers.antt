@@ -1,10 +1,8 @@
 -- `transcript::first_line::value` meets its contract. The loop's invariant: all up to the i-th are digits, and their value is known.
 -- Assumes nothing.
-use Prim.Native.Nat.{◌-◌}
 use mathlib.Core.Path.{sym}
 use native.Mathlib.Omega.{arith}
-use lib.ListN.{length}
-use Rattle.transcript.specs.FirstLine.Laws.{Read, none_read, few_read, all_read, no_digit, one_read, below_digit, above_digit}
+use Rattle.transcript.specs.FirstLine.Laws.{none_read, few_read, all_read, no_digit, one_read, below_digit, above_digit}
 use Rattle.transcript.proofs.first_line.value.Goals as goal
 
 pub loop-i-init : goal.loop-i-init

@@ -1,11 +1,8 @@
 -- `transcript::lines::find` meets its contract. The loop's invariant: the first place from the start on is the first from i on.
 -- Assumes nothing.
-use Prim.Native.Nat.{◌+◌, ◌-◌, ◌≤◌}
-use mathlib.Core.Path.{◌≡◌, refl}
+use mathlib.Core.Path.{refl}
 use native.Mathlib.Numerals.{add-one}
 use native.Mathlib.Omega.{arith}
-use lib.ListN.{length, drop}
-use Rattle.transcript.specs.Lines.{place}
 use Rattle.transcript.specs.Lines.Laws.{place_here, place_next, place_end}
 use Rattle.transcript.proofs.lines.find.Goals as goal
 

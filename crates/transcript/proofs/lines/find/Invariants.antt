@@ -1,12 +1,9 @@
 -- `transcript::lines::find` meets its contract. The loop's invariant: the first place from the start on is the first from i on.
 -- Assumes nothing.
 use Prim.Native.Nat.{◌+◌, ◌-◌, ◌≤◌}
-use mathlib.Core.Path.{◌≡◌, refl}
-use native.Mathlib.Numerals.{add-one}
-use native.Mathlib.Omega.{arith}
+use mathlib.Core.Path.{◌≡◌}
 use lib.ListN.{length, drop}
 use Rattle.transcript.specs.Lines.{place}
-use Rattle.transcript.specs.Lines.Laws.{place_here, place_next, place_end}
 use Rattle.transcript.proofs.lines.find.Given as goal
 
 abbrev pub invariant-loop-i : goal.invariant-loop-i

@@ -1,6 +1,5 @@
 -- `transcript::output::put_granted` meets its contract: six texts, one after the other.
 -- Assumes nothing.
-use borrow.Author.Rules.{rules}
 use Rattle.text.specs.Output.Laws.{put_then}
 use Rattle.transcript.specs.Cycles.{granted}
 use Rattle.transcript.proofs.output.put_granted.Goals as goal

@@ -1,6 +1,5 @@
 -- `transcript::output::put_refusal` meets its contract: six texts, one after the other.
 -- Assumes nothing.
-use borrow.Author.Rules.{rules}
 use Rattle.text.specs.Output.Laws.{put_then}
 use Rattle.transcript.specs.Cycles.{refusal}
 use Rattle.transcript.proofs.output.put_refusal.Goals as goal

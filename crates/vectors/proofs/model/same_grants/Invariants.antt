@@ -1,7 +1,6 @@
 -- `same_grants` is safe and ends.
 -- Assumes nothing.
 use Prim.Native.Nat.{◌-◌, ◌≤◌}
-use borrow.Author.Rules.{rules}
 use Rattle.vectors.proofs.model.same_grants.Given as goal
 
 abbrev pub invariant-loop-i : goal.invariant-loop-i

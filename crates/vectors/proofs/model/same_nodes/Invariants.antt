@@ -1,7 +1,6 @@
 -- `same_nodes` is safe and ends.
 -- Assumes nothing.
 use Prim.Native.Nat.{◌-◌, ◌≤◌}
-use borrow.Author.Rules.{rules}
 use Rattle.vectors.proofs.model.same_nodes.Given as goal
 
 abbrev pub invariant-loop-u : goal.invariant-loop-u

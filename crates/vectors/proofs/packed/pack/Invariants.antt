@@ -1,7 +1,6 @@
 -- `pack` is safe and ends.
 -- Assumes nothing.
 use Prim.Native.Nat.{◌-◌, ◌≤◌}
-use borrow.Author.Rules.{rules}
 use Rattle.vectors.proofs.packed.pack.Given as goal
 
 abbrev pub invariant-loop-k : goal.invariant-loop-k

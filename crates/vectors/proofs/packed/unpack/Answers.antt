@@ -1,10 +1,7 @@
 -- `unpack` is safe and ends.
 -- Assumes nothing.
-use Prim.Native.Nat.{◌-◌, ◌≤◌}
-use mathlib.Core.Path.{◌≡◌}
 use native.Mathlib.Omega.{arith}
-use lib.ListN.{length, length-set}
-use borrow.Author.Rules.{rules}
+use lib.ListN.{length-set}
 use Rattle.vectors.proofs.packed.unpack.Goals as goal
 
 pub loop-i-smaller : goal.loop-i-smaller

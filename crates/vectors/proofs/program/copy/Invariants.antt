@@ -1,7 +1,6 @@
 -- `copy` is safe and ends.
 -- Assumes nothing.
 use Prim.Native.Nat.{◌-◌, ◌≤◌}
-use borrow.Author.Rules.{rules}
 use Rattle.vectors.proofs.program.copy.Given as goal
 
 abbrev pub invariant-loop-i : goal.invariant-loop-i

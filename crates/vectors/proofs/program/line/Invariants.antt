@@ -1,7 +1,6 @@
 -- `line` is safe and ends.
 -- Assumes nothing.
 use Prim.Native.Nat.{◌-◌, ◌≤◌}
-use borrow.Author.Rules.{rules}
 use Rattle.vectors.proofs.program.line.Given as goal
 
 abbrev pub invariant-loop-i : goal.invariant-loop-i

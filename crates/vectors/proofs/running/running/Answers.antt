@@ -1,10 +1,7 @@
 -- `running` is safe and ends, and its result has a code past the last station.
 -- Assumes nothing.
-use Prim.Native.Nat.{◌-◌, ◌≤◌}
-use mathlib.Core.Path.{◌≡◌}
 use native.Mathlib.Omega.{arith}
-use lib.ListN.{length, length-set}
-use borrow.Author.Rules.{rules}
+use lib.ListN.{length-set}
 use Rattle.vectors.proofs.running.running.Goals as goal
 
 pub loop-k-preserved : goal.loop-k-preserved

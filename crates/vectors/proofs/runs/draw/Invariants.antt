@@ -1,7 +1,6 @@
 -- `draw` is safe and ends.
 -- Assumes nothing.
 use Prim.Native.Nat.{◌-◌, ◌≤◌}
-use borrow.Author.Rules.{rules}
 use Rattle.vectors.proofs.runs.draw.Given as goal
 
 abbrev pub invariant-loop-i : goal.invariant-loop-i

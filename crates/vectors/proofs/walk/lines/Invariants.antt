@@ -1,7 +1,6 @@
 -- `lines` is safe and ends.
 -- Assumes nothing.
 use Prim.Native.Nat.{◌-◌, ◌≤◌}
-use borrow.Author.Rules.{rules}
 use Rattle.vectors.proofs.walk.lines.Given as goal
 
 abbrev pub invariant-loop-which : goal.invariant-loop-which
