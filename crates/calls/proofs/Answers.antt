@@ -13,10 +13,10 @@ use Rattle.rules.specs.Lists.{count}
 use Rattle.rules.specs.Lists.Laws as Lists
 use Rattle.rules.specs.Packing.{pack, unpack}
 use Rattle.rules.specs.RoundRobin as Rule
-use Rattle.rules.specs.RoundRobin.Laws as RuleLaws
+use Rattle.rules.proofs.RoundRobin.Laws as RuleLaws
 use Rattle.rules.specs.Thermometer.{is_code}
 use Rattle.rules.specs.Bus as BusRule
-use Rattle.rules.specs.Bus.Laws as BusRuleLaws
+use Rattle.rules.proofs.Bus.Laws as BusRuleLaws
 use Rattle.arbiter.specs.declared.Answer.{Answer}
 use Rattle.arbiter.specs.declared.State.{State}
 use Rattle.arbiter.specs.declared.question.Verdict.{Verdict}

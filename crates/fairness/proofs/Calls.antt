@@ -15,7 +15,7 @@ use Rattle.rules.specs.Lists.{bit, member}
 use Rattle.rules.specs.Lists.Laws as Lists
 use Rattle.rules.specs.RoundRobin as Rule
 use Rattle.rules.specs.RoundRobin.{start}
-use Rattle.rules.specs.RoundRobin.Laws as Laws
+use Rattle.rules.proofs.RoundRobin.Laws as Laws
 use Rattle.rules.specs.Bus as BusRule
 use Rattle.arbiter.specs.declared.Answer.{Answer}
 use Rattle.arbiter.specs.declared.State.{State}

@@ -13,8 +13,8 @@ use Rattle.rules.specs.declared.Head.TheVariants.{At}
 use Rattle.rules.specs.Lists.{bit, filter, count, member, before}
 use Rattle.rules.specs.Lists.Laws as Lists
 use Rattle.rules.specs.RoundRobin.{start, order, granted, next}
-use Rattle.rules.specs.RoundRobin.Laws as Laws
-use Rattle.rules.specs.Bus.Laws as BusLaws
+use Rattle.rules.proofs.RoundRobin.Laws as Laws
+use Rattle.rules.proofs.Bus.Laws as BusLaws
 use Rattle.fairness.specs.Cycles.{Cycle, next_head, Chain, Follows, Waits, total, WaitingCycles}
 
 -- some cycles of a chain, whatever stands before them and after them

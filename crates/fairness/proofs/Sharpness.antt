@@ -15,9 +15,9 @@ use Rattle.rules.specs.declared.Head.TheVariants.{None, At}
 use Rattle.rules.specs.Lists.{range, count, member, before}
 use Rattle.rules.specs.Lists.Laws as Lists
 use Rattle.rules.specs.RoundRobin.{start, order, granted, next}
-use Rattle.rules.specs.RoundRobin.Laws as Laws
+use Rattle.rules.proofs.RoundRobin.Laws as Laws
 use Rattle.rules.specs.Bus as Bus
-use Rattle.rules.specs.Bus.Laws as BusLaws
+use Rattle.rules.proofs.Bus.Laws as BusLaws
 use Rattle.arbiter.specs.declared.Answer.{Answer}
 use Rattle.arbiter.specs.declared.State.{State}
 use Rattle.arbiter.specs.Places.{Bits}

@@ -16,9 +16,9 @@ use Rattle.rules.specs.declared.Head.TheVariants.{At}
 use Rattle.rules.specs.Lists.{bit, count, before}
 use Rattle.rules.specs.Lists.Laws as Lists
 use Rattle.rules.specs.RoundRobin.{start, order}
-use Rattle.rules.specs.RoundRobin.Laws as Laws
+use Rattle.rules.proofs.RoundRobin.Laws as Laws
 use Rattle.rules.specs.Bus as Bus
-use Rattle.rules.specs.Bus.Laws as BusLaws
+use Rattle.rules.proofs.Bus.Laws as BusLaws
 use Rattle.arbiter.specs.declared.State.{State}
 use Rattle.arbiter.specs.Questions.Laws.{Allowed}
 use Rattle.arbiter.specs.Answers.Laws.{opened_passed, passed_opened}

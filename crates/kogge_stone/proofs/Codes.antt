@@ -12,10 +12,10 @@ use lib.ListN.{length, get_or, get_or-eq_default}
 use lib.Pow.{ones_split, suc_ones}
 use borrow.Author.Tests.{ltb-true, lt-ltb, ltb-false, le-ltb}
 use Rattle.rules.specs.Thermometer.{code, is_code, add}
-use Rattle.rules.specs.Thermometer.Laws.{code_own, code_below, add_is_code, zero_is_code}
+use Rattle.rules.proofs.Thermometer.Laws.{code_own, code_below, add_is_code, zero_is_code}
 use Rattle.rules.specs.Lists.Laws as Lists
 use Rattle.rules.specs.KoggeStone.{joined}
-use Rattle.rules.specs.KoggeStone.Laws as Network
+use Rattle.rules.proofs.KoggeStone.Laws as Network
 use Rattle.kogge_stone.specs.Steps.{Codes}
 use Rattle.kogge_stone.proofs.Fill.{Filled}
 

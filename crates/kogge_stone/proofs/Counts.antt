@@ -17,12 +17,12 @@ use Rattle.rules.specs.Lists.{bit, before}
 use Rattle.rules.specs.Lists.Laws as Lists
 use Rattle.rules.specs.RoundRobin as RoundRobin
 use Rattle.rules.specs.RoundRobin.{start, order}
-use Rattle.rules.specs.RoundRobin.Laws.{before_position, before_length}
+use Rattle.rules.proofs.RoundRobin.Laws.{before_position, before_length}
 use Rattle.rules.specs.Thermometer as Thermometer
 use Rattle.rules.specs.Thermometer.{is_code, saturated, running_codes}
-use Rattle.rules.specs.Thermometer.Laws.{zero_ones, code_own, code_below, grants_round_robin}
-use Rattle.rules.specs.Thermometer.Running.{running_first, codes_inputs, codes_length, code_before, ones_past, code_last}
-use Rattle.rules.specs.Walk.Laws.{Walked}
+use Rattle.rules.proofs.Thermometer.Laws.{zero_ones, code_own, code_below, grants_round_robin}
+use Rattle.rules.proofs.Thermometer.Running.{running_first, codes_inputs, codes_length, code_before, ones_past, code_last}
+use Rattle.rules.proofs.Walk.Laws.{Walked}
 use Rattle.arbiter.specs.Decisions.{requested, decision, counted}
 use Rattle.arbiter.specs.Decisions.Laws.{walked}
 use Rattle.kogge_stone.specs.Steps.{station, granted}

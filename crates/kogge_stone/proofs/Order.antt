@@ -13,12 +13,12 @@ use Rattle.rules.specs.declared.Head.TheVariants.{None, At}
 use Rattle.rules.specs.Lists.{range}
 use Rattle.rules.specs.Lists.Laws as Lists
 use Rattle.rules.specs.RoundRobin.{start}
-use Rattle.rules.specs.RoundRobin.Laws.{start_none, start_at}
+use Rattle.rules.proofs.RoundRobin.Laws.{start_none, start_at}
 use Rattle.rules.specs.KoggeStone.{distances, levels, network}
-use Rattle.rules.specs.KoggeStone.Laws.{network_levels}
+use Rattle.rules.proofs.KoggeStone.Laws.{network_levels}
 use Rattle.rules.specs.Thermometer.{input, inputs}
-use Rattle.rules.specs.Thermometer.Laws.{code_bit}
-use Rattle.rules.specs.Thermometer.Running.{inputs_runs, inputs_codes}
+use Rattle.rules.proofs.Thermometer.Laws.{code_bit}
+use Rattle.rules.proofs.Thermometer.Running.{inputs_runs, inputs_codes}
 use Rattle.arbiter.specs.Decisions.{requested}
 use Rattle.arbiter.specs.Places.{Bits}
 use Rattle.kogge_stone.specs.Steps.{Codes}

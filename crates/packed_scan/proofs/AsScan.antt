@@ -12,9 +12,9 @@ use Rattle.rules.specs.declared.Head.{Head}
 use Rattle.rules.specs.Lists.{member}
 use Rattle.rules.specs.Lists.Laws as Lists
 use Rattle.rules.specs.Packing.{line, packed_length, pack, unpack}
-use Rattle.rules.specs.Packing.Laws as Packing
+use Rattle.rules.proofs.Packing.Laws as Packing
 use Rattle.rules.specs.RoundRobin.{granted, grants}
-use Rattle.rules.specs.RoundRobin.Laws as RoundRobin
+use Rattle.rules.proofs.RoundRobin.Laws as RoundRobin
 use Rattle.arbiter.specs.Answers.{Outcome}
 use Rattle.arbiter.specs.Answers.Laws.{writes_passed, writes_is}
 use Rattle.arbiter.specs.Cycle as Scan

@@ -3,7 +3,6 @@
 use Rattle.std.specs.Prelude.{ℕ, ◌+◌, ◌%◌, Bool, true, false, List, [], ◌∷◌, eqb}
 use Rattle.rules.specs.declared.Head.TheVariants.{At}
 use Rattle.rules.specs.RoundRobin as RoundRobin
-pub mod Laws
 
 -- who is granted: the first that asks in turn order "from the token, with one pick"
 unfoldable pub granted : ℕ → ℕ → (ℕ → Bool) → List ℕ

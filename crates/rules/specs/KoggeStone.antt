@@ -7,7 +7,7 @@ use Rattle.rules.specs.Lists.{range, filter, before}
 use Rattle.rules.specs.RoundRobin.{order}
 use Rattle.rules.specs.Thermometer.{add, inputs}
 pub mod Laws
-mod Known
+pub mod Known
 
 -- N1's "distances 1, 2, 4 and so on until N is reached": the powers of two below n
 pub distances : ℕ → List ℕ

@@ -5,9 +5,8 @@ use Rattle.std.specs.Int.Count.{ones}
 use Rattle.rules.specs.declared.Head.{Head}
 use Rattle.rules.specs.Lists.{bit, range, count, before}
 use Rattle.rules.specs.RoundRobin.{order}
-pub mod Laws
 pub mod Running
-mod Known
+pub mod Known
 
 -- the thermometer code of a count c: the lowest c bits set
 unfoldable pub code : ℕ → ℕ

@@ -4,7 +4,6 @@ use Rattle.std.specs.Prelude.{ℕ, zero, suc, ◌+◌, ◌-◌, ◌*◌, ◌/◌
 use Rattle.rules.specs.declared.Head.{Head}
 use Rattle.rules.specs.declared.Head.TheVariants.{None, At}
 use Rattle.rules.specs.Lists.{bit, range, marks}
-pub mod Laws
 
 -- a node's value, of its two bits S1 and S0
 unfoldable pub value : Bool → Bool → ℕ

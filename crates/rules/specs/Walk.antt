@@ -4,7 +4,6 @@
 use Rattle.std.specs.Prelude.{ℕ, suc, ◌+◌, ◌-◌, ◌≤◌, ◌<◌, min, ◌≡◌, Bool, true, cond, ◌&&◌, List, ltb, length, get_or}
 use Rattle.rules.specs.Lists as Lists
 use Rattle.rules.specs.Lists.{range}
-pub mod Laws
 
 -- how many are granted when a run from one station comes to w, if the picks are not used up
 abbrev pub reached : (ℕ → Bool) → ℕ → ℕ → ℕ → ℕ

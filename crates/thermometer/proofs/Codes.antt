@@ -15,7 +15,7 @@ use borrow.Author.Tests.{leb-true, leb-false}
 use Rattle.rules.specs.Lists.{range, filter}
 use Rattle.rules.specs.Lists.Laws as Lists
 use Rattle.rules.specs.Thermometer.{code, is_code, add}
-use Rattle.rules.specs.Thermometer.Laws.{code_own, code_few, ones_bit}
+use Rattle.rules.proofs.Thermometer.Laws.{code_own, code_few, ones_bit}
 
 -- the tests differ on a byte: as many trailing ones as ones, and the code of its ones
 abbrev differ : ℕ → Bool

@@ -11,9 +11,9 @@ use lib.ListN.{length, set}
 use borrow.Author.Tests.{eqb-true, eqb-false, ltb-true, ltb-false, eq-eqb, ne_eqb, lt-ltb, not-true}
 use Rattle.rules.specs.Lists.Laws as Lists
 use Rattle.rules.specs.Thermometer.{code, is_code, add}
-use Rattle.rules.specs.Thermometer.Laws.{ones_code, ones_bit, add_is_code, code_own, code_few}
+use Rattle.rules.proofs.Thermometer.Laws.{ones_code, ones_bit, add_is_code, code_own, code_few}
 use Rattle.rules.specs.Walk.{Ran}
-use Rattle.rules.specs.Walk.Laws as Walk
+use Rattle.rules.proofs.Walk.Laws as Walk
 
 -- at a station with the code a before it and the request byte b
 module _ (m a b : ℕ) (coded : is_code m a ≡ true) (is-bit : b ≤ 1) where

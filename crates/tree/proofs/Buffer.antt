@@ -16,7 +16,7 @@ use Rattle.rules.specs.declared.Head.TheVariants.{None, At}
 use Rattle.rules.specs.Lists.{bit, range}
 use Rattle.rules.specs.Lists.Laws as Lists
 use Rattle.rules.specs.Tree.{value, head_at, leaf, join, joined}
-use Rattle.rules.specs.Tree.Laws.{value_below}
+use Rattle.rules.proofs.Tree.Laws.{value_below}
 use Rattle.arbiter.specs.Decisions.{requested}
 use Rattle.arbiter.specs.Places.{Bits}
 use Rattle.tree.specs.Steps.{ValuesFrom, max_pairs, Pairs, Level, DoneFrom}

@@ -2,7 +2,7 @@
 -- Assumes nothing.
 use mathlib.Core.Path.{sym, ap, ◌∙◌}
 use Rattle.rules.specs.RoundRobin.{start}
-use Rattle.rules.specs.RoundRobin.Laws.{start_none, start_at}
+use Rattle.rules.proofs.RoundRobin.Laws.{start_none, start_at}
 use Rattle.arbiter.proofs.first_station.Goals as goal
 
 pub returns-in-None : goal.returns-in-None

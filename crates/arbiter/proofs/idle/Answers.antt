@@ -5,7 +5,7 @@ use mathlib.Core.Path.{◌≡◌}
 use mathlib.Core.List.{[]}
 use Rattle.rules.specs.declared.Head.{Head}
 use Rattle.rules.specs.declared.Head.TheVariants.{None, At}
-use Rattle.rules.specs.RoundRobin.Laws.{after_stays, after_none}
+use Rattle.rules.proofs.RoundRobin.Laws.{after_stays, after_none}
 use Rattle.arbiter.specs.Decisions.{deciding}
 use Rattle.arbiter.proofs.idle.Goals as goal
 

@@ -8,8 +8,8 @@ use Rattle.rules.specs.declared.Head.{Head}
 use Rattle.rules.specs.Lists.{marks}
 use Rattle.rules.specs.Lists.Laws as Lists
 use Rattle.rules.specs.RoundRobin.{order, granted, grants}
-use Rattle.rules.specs.RoundRobin.Laws as RoundRobin
-use Rattle.rules.specs.Walk.Laws.{Walked}
+use Rattle.rules.proofs.RoundRobin.Laws as RoundRobin
+use Rattle.rules.proofs.Walk.Laws.{Walked}
 use Rattle.arbiter.specs.Places.{Bits, highest}
 use Rattle.arbiter.specs.Places.Laws.{highest_most, highest_least}
 use Rattle.arbiter.specs.Decisions.{requested, decision, deciding, past, counted}

@@ -7,7 +7,7 @@ use Rattle.rules.specs.declared.Head.{Head}
 use Rattle.rules.specs.declared.Head.TheVariants.{None, At}
 use Rattle.rules.specs.Lists.Laws as Lists
 use Rattle.rules.specs.RoundRobin.{start}
-use Rattle.rules.specs.RoundRobin.Laws as RoundRobin
+use Rattle.rules.proofs.RoundRobin.Laws as RoundRobin
 use Rattle.arbiter.specs.declared.question.Reading.{Reading}
 use Rattle.arbiter.specs.declared.question.Verdict.{Verdict}
 use Rattle.arbiter.specs.Places.{first, Bits, highest}

@@ -6,7 +6,7 @@ use native.Mathlib.Omega.{arith}
 use lib.Count.{ones}
 use lib.ListN.{replicate, length-take}
 use Rattle.rules.specs.Thermometer.{code}
-use Rattle.rules.specs.Thermometer.Laws.{full_is_code, full_ones}
+use Rattle.rules.proofs.Thermometer.Laws.{full_is_code, full_ones}
 use Rattle.arbiter.specs.Decisions.Laws.{quiet_decides, quiet_grants}
 use Rattle.arbiter.specs.Places.{highest}
 use Rattle.kogge_stone.proofs.arbitrate.Goals as goal

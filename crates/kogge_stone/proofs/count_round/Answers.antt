@@ -6,7 +6,7 @@ use mathlib.Core.List.{List, [], ◌∷◌, ◌++◌, append-nil}
 use native.Mathlib.Omega.{arith}
 use lib.ListN.{length, take, drop, set, length-append, length-take, length-drop, length-set}
 use lib.Seq.{drop-length}
-use Rattle.rules.specs.KoggeStone.Laws as Network
+use Rattle.rules.proofs.KoggeStone.Laws as Network
 use Rattle.kogge_stone.proofs.count_round.Goals as goal
 
 -- what comes out of the network with a 0 before it, in a buffer l

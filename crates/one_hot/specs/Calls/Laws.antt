@@ -10,7 +10,7 @@ use Rattle.rules.specs.declared.Head.TheVariants.{None, At}
 use Rattle.rules.specs.Lists.{bit, range, member}
 use Rattle.rules.specs.Lists.Laws as Lists
 use Rattle.rules.specs.RoundRobin.{start}
-use Rattle.rules.specs.RoundRobin.Laws.{start_at}
+use Rattle.rules.proofs.RoundRobin.Laws.{start_at}
 use Rattle.arbiter.specs.Places.{places, ones, first}
 use Rattle.arbiter.specs.Places.Laws.{Free, places_none, places_first, free_of, first_none, found}
 use Rattle.arbiter.specs.Questions.{refuse_unless, refuse_at_first, one_hot}

@@ -7,9 +7,9 @@ use Rattle.rules.specs.declared.Head.TheVariants.{None, At}
 use Rattle.rules.specs.Lists.{marks}
 use Rattle.rules.specs.Lists.Laws as Lists
 use Rattle.rules.specs.Packing.{line, unpack, packed_length, pack, first_line}
-use Rattle.rules.specs.Packing.Laws as Packing
+use Rattle.rules.proofs.Packing.Laws as Packing
 use Rattle.rules.specs.RoundRobin.{start, granted, grants}
-use Rattle.rules.specs.RoundRobin.Laws as RoundRobin
+use Rattle.rules.proofs.RoundRobin.Laws as RoundRobin
 use Rattle.arbiter.specs.Places.{ones, nonzero, set_lines, first, highest}
 use Rattle.arbiter.specs.Places.Laws.{first_none, Free, free_none, free_on, free_of, places_none, places_first, Found, found, is_zero, highest_most}
 use Rattle.arbiter.specs.Decisions.{requested, decision, deciding, counted}

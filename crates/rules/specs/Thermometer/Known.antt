@@ -1,28 +1,32 @@
--- Running codes by computing: the examples of 001.
+-- Running codes by computing: the examples of 001, told by their order. That the order is this one is in the module of the same name
+-- in proofs.
 -- Assumes nothing.
-use Rattle.std.specs.Prelude.{ℕ, ◌≡◌, List, [], ◌∷◌}
+use Rattle.std.specs.Prelude.{ℕ, ◌≡◌, refl, List, [], ◌∷◌}
 use Rattle.std.specs.Int.Count.{ones}
 use Rattle.rules.specs.declared.Head.TheVariants.{At}
 use Rattle.rules.specs.Lists.{member}
-use Rattle.rules.specs.RoundRobin.Laws as Laws
+use Rattle.rules.specs.RoundRobin.{order}
 use Rattle.rules.specs.Thermometer.{code, add, inputs, running, running_codes}
 
 -- the codes of a cycle in which these stations ask
-abbrev codes : ℕ → ℕ → ℕ → List ℕ → List ℕ
+abbrev pub codes : ℕ → ℕ → ℕ → List ℕ → List ℕ
 codes n m h asking = running_codes n m (At h) (λ w. member w asking)
 
 -- 001 goes downwards, so station w is its input 7 - w. Figure 2a: inputs 5, 4 and 2 ask, and the head, which the text does not name,
 -- is taken at input 7
-known_2a : codes 8 2 0 (2 ∷ 3 ∷ 5 ∷ []) ≡ 0 ∷ 0 ∷ 0 ∷ 1 ∷ 3 ∷ 3 ∷ 3 ∷ 3 ∷ 3 ∷ []
+pub known_2a_ordered : order 8 (At 0) ≡ 0 ∷ 1 ∷ 2 ∷ 3 ∷ 4 ∷ 5 ∷ 6 ∷ 7 ∷ []
+    → codes 8 2 0 (2 ∷ 3 ∷ 5 ∷ []) ≡ 0 ∷ 0 ∷ 0 ∷ 1 ∷ 3 ∷ 3 ∷ 3 ∷ 3 ∷ 3 ∷ []
 unfolding inputs running running_codes add code ones
-known_2a = rw (Laws.order_runs 8 (At 0), Laws.start_at 0)
+known_2a_ordered e = rw e refl
 
 -- figure 2b: the head is at input 3, and inputs 6 and 2 ask
-known_2b : codes 8 2 4 (1 ∷ 5 ∷ []) ≡ 0 ∷ 0 ∷ 1 ∷ 1 ∷ 1 ∷ 1 ∷ 3 ∷ 3 ∷ 3 ∷ []
+pub known_2b_ordered : order 8 (At 4) ≡ 4 ∷ 5 ∷ 6 ∷ 7 ∷ 0 ∷ 1 ∷ 2 ∷ 3 ∷ []
+    → codes 8 2 4 (1 ∷ 5 ∷ []) ≡ 0 ∷ 0 ∷ 1 ∷ 1 ∷ 1 ∷ 1 ∷ 3 ∷ 3 ∷ 3 ∷ []
 unfolding inputs running running_codes add code ones
-known_2b = rw (Laws.order_runs 8 (At 4), Laws.start_at 4)
+known_2b_ordered e = rw e refl
 
 -- figure 3: station w is its input 4 - w; inputs 3, 2 and 0 ask, and the head is taken at input 4
-known_3 : codes 5 2 0 (1 ∷ 2 ∷ 4 ∷ []) ≡ 0 ∷ 0 ∷ 1 ∷ 3 ∷ 3 ∷ 3 ∷ []
+pub known_3_ordered : order 5 (At 0) ≡ 0 ∷ 1 ∷ 2 ∷ 3 ∷ 4 ∷ []
+    → codes 5 2 0 (1 ∷ 2 ∷ 4 ∷ []) ≡ 0 ∷ 0 ∷ 1 ∷ 3 ∷ 3 ∷ 3 ∷ []
 unfolding inputs running running_codes add code ones
-known_3 = rw (Laws.order_runs 5 (At 0), Laws.start_at 0)
+known_3_ordered e = rw e refl

@@ -4,7 +4,7 @@ use Prim.Native.Nat.{ℕ}
 use mathlib.Core.Path.{◌≡◌, refl, sym, ap, ◌∙◌}
 use native.Mathlib.Omega.{arith}
 use lib.ListN.{length, length-replicate}
-use Rattle.rules.specs.Walk.Laws as Walk
+use Rattle.rules.proofs.Walk.Laws as Walk
 use Rattle.arbiter.specs.Decisions.Laws.{walked, quiet_decides, quiet_grants}
 use Rattle.arbiter.specs.Places.{highest}
 use Rattle.scan.proofs.walk_round.Goals as goal

@@ -3,7 +3,7 @@
 use mathlib.Core.Path.{◌≡◌, sym, ◌∙◌}
 use native.Mathlib.Omega.{arith}
 use lib.ListN.{length-set, length-take}
-use Rattle.rules.specs.Walk.Laws as Walk
+use Rattle.rules.proofs.Walk.Laws as Walk
 use Rattle.scan.proofs.Searches as Searches
 use Rattle.scan.proofs.walk_run.Goals as goal
 

@@ -5,8 +5,8 @@ use mathlib.Core.Path.{◌≡◌, refl, sym, ap, ◌∙◌}
 use native.Mathlib.Omega.{arith}
 use lib.ListN.{length, length-replicate}
 use borrow.Author.Rules.{rules}
-use Rattle.rules.specs.Thermometer.Laws.{zero_ones, zero_is_code}
-use Rattle.rules.specs.Walk.Laws as Walk
+use Rattle.rules.proofs.Thermometer.Laws.{zero_ones, zero_is_code}
+use Rattle.rules.proofs.Walk.Laws as Walk
 use Rattle.arbiter.specs.Decisions.{counted}
 use Rattle.arbiter.specs.Decisions.Laws.{walked, quiet_decides, quiet_grants}
 use Rattle.arbiter.specs.Places.{highest}

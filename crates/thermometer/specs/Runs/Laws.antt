@@ -9,11 +9,11 @@ use Rattle.rules.specs.Lists.{range}
 use Rattle.rules.specs.Lists.Laws as Lists
 use Rattle.rules.specs.RoundRobin.{start}
 use Rattle.rules.specs.Thermometer.{is_code, add, input, running, running_codes}
-use Rattle.rules.specs.Thermometer.Laws.{ones_code, add_input}
-use Rattle.rules.specs.Thermometer.Running.{running_first, running_next, running_prefix, running_carried, running_is_code, running_run, inputs_runs, codes_inputs}
+use Rattle.rules.proofs.Thermometer.Laws.{ones_code, add_input}
+use Rattle.rules.proofs.Thermometer.Running.{running_first, running_next, running_prefix, running_carried, running_is_code, running_run, inputs_runs, codes_inputs}
 use Rattle.rules.specs.Walk as Walks
 use Rattle.rules.specs.Walk.{reached}
-use Rattle.rules.specs.Walk.Laws as Walk
+use Rattle.rules.proofs.Walk.Laws as Walk
 use Rattle.arbiter.specs.Decisions.{requested}
 use Rattle.thermometer.specs.declared.Walk.{Walk}
 use Rattle.thermometer.specs.Runs.{Ran, begun, asked, code_at}

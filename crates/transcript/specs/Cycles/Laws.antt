@@ -9,9 +9,9 @@ use Rattle.rules.specs.declared.Head.TheVariants.{None, At}
 use Rattle.rules.specs.Lists.{range, member}
 use Rattle.rules.specs.Lists.Laws as Lists
 use Rattle.rules.specs.RoundRobin.{start, next}
-use Rattle.rules.specs.RoundRobin.Laws as Rule
+use Rattle.rules.proofs.RoundRobin.Laws as Rule
 use Rattle.rules.specs.Bus as BusNext
-use Rattle.rules.specs.Bus.Laws as BusRule
+use Rattle.rules.proofs.Bus.Laws as BusRule
 use Rattle.text.specs.Characters.{line_feed, space, decimal, bit, bits}
 use Rattle.text.specs.Characters.Laws.{decimal_few}
 use Rattle.arbiter.specs.declared.Answer.{Answer}

@@ -5,7 +5,7 @@ use mathlib.Core.Path.{◌≡◌, sym, ap, ◌∙◌}
 use native.Mathlib.Omega.{arith}
 use lib.ListN.{length, get_or, length-replicate}
 use Rattle.rules.specs.Tree.{s0, reached}
-use Rattle.rules.specs.Tree.Laws.{reached_station}
+use Rattle.rules.proofs.Tree.Laws.{reached_station}
 use Rattle.arbiter.specs.Decisions.Laws.{counted_one}
 use Rattle.tree.specs.Steps.Laws.{descended_one, descended_none, grants_one, grants_none}
 use Rattle.tree.proofs.grant.Goals as goal

@@ -4,7 +4,7 @@ use Rattle.std.specs.Prelude.{ℕ, ◌+◌, ◌≤◌, ◌≡◌, Bool, true, fa
 use Rattle.rules.specs.declared.Head.{Head}
 use Rattle.rules.specs.Lists.Laws as Lists
 use Rattle.rules.specs.Tree as Rule
-use Rattle.rules.specs.Tree.Laws as Tree
+use Rattle.rules.proofs.Tree.Laws as Tree
 use Rattle.arbiter.specs.Decisions.{deciding}
 use Rattle.tree.specs.Steps.{descended}
 

@@ -14,9 +14,9 @@ use Rattle.rules.specs.declared.Head.TheVariants.{None, At}
 use Rattle.rules.specs.Lists.{bit, range, filter, count, before}
 use Rattle.rules.specs.Lists.Laws as Lists
 use Rattle.rules.specs.RoundRobin.{start, order, granted}
-use Rattle.rules.specs.RoundRobin.Laws as RoundRobin
+use Rattle.rules.proofs.RoundRobin.Laws as RoundRobin
 use Rattle.rules.specs.Tree.{value, s1, s0, head_at, leaf, join, nodes, goes_right, child, descend, reached, chosen}
-use Rattle.rules.specs.Tree.Laws as Tree
+use Rattle.rules.proofs.Tree.Laws as Tree
 use Rattle.arbiter.specs.Places.{first}
 use Rattle.tree.specs.Subtrees.{inside, from, some, subtree}
 

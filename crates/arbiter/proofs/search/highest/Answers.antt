@@ -3,14 +3,10 @@
 use native.Mathlib.Omega.{arith}
 use Rattle.arbiter.specs.Places.Laws.{highest_none, highest_next}
 use Rattle.arbiter.proofs.search.highest.Goals as goal
-use Rattle.arbiter.proofs.search.highest.Goals.{else-high-bytes, then-high-bytes}
 
 pub loop-i-preserved : goal.loop-i-preserved
 loop-i-preserved c =
-    let l = c.loop-i in
-    let b = c.args.bytes.now in
-    let rest = highest_next b l.i (omega arith) in
-    elim c.if-high-bytes.branch [ then-high-bytes w ↦ omega (arith, rest) | else-high-bytes w ↦ omega (arith, rest) ]
+    let rest = highest_next c.args.bytes.now c.loop-i.i (omega arith) in grind (arith, rest)
 
 pub returns : goal.returns
 returns c =

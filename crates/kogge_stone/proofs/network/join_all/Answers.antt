@@ -6,8 +6,8 @@ use mathlib.Core.List.{List}
 use native.Mathlib.Omega.{arith}
 use lib.ListN.{length}
 use Rattle.rules.specs.KoggeStone.{joined}
-use Rattle.rules.specs.KoggeStone.Laws as Network
-use Rattle.rules.specs.KoggeStone.Laws.{Left}
+use Rattle.rules.proofs.KoggeStone.Laws as Network
+use Rattle.rules.proofs.KoggeStone.Laws.{Left}
 use Rattle.kogge_stone.specs.Steps.{Codes}
 use Rattle.kogge_stone.proofs.Codes.{joined_codes}
 use Rattle.kogge_stone.proofs.network.join_all.Goals as goal

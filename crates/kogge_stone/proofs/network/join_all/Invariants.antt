@@ -5,7 +5,7 @@ use mathlib.Core.Path.{◌≡◌}
 use lib.Count.{ones}
 use lib.ListN.{length}
 use Rattle.rules.specs.KoggeStone.{distances, levels}
-use Rattle.rules.specs.KoggeStone.Laws.{Left}
+use Rattle.rules.proofs.KoggeStone.Laws.{Left}
 use Rattle.kogge_stone.specs.Steps.{Codes}
 use Rattle.kogge_stone.proofs.network.join_all.Given as goal
 

@@ -5,7 +5,7 @@ use mathlib.Core.Path.{sym, ap, ◌∙◌}
 use native.Mathlib.Omega.{arith}
 use lib.Count.{ones}
 use lib.ListN.{length}
-use Rattle.rules.specs.KoggeStone.Laws as Network
+use Rattle.rules.proofs.KoggeStone.Laws as Network
 use Rattle.rules.specs.Thermometer.{add}
 use Rattle.kogge_stone.proofs.Codes.{every_code, filling_codes}
 use Rattle.kogge_stone.proofs.Fill as Fill

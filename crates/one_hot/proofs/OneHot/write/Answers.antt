@@ -7,7 +7,7 @@ use native.Mathlib.Omega.{arith}
 use lib.ListN.{length, set, length-set}
 use Rattle.rules.specs.declared.Head.{Head}
 use Rattle.rules.specs.RoundRobin.{start}
-use Rattle.rules.specs.RoundRobin.Laws.{start_at}
+use Rattle.rules.proofs.RoundRobin.Laws.{start_at}
 use Rattle.arbiter.specs.Questions.Laws.{Writable, writable}
 use Rattle.arbiter.specs.Answers.{moved, served}
 use Rattle.arbiter.specs.Answers.Laws.{written, unwritten}

@@ -2,7 +2,7 @@
 -- Assumes nothing.
 use mathlib.Core.Path.{sym, ◌∙◌}
 use native.Mathlib.Omega.{arith}
-use Rattle.rules.specs.Packing.Laws.{entry_none, entry_own}
+use Rattle.rules.proofs.Packing.Laws.{entry_none, entry_own}
 use Rattle.packed_scan.proofs.lines.entry.Goals as goal
 
 pub returns-then-rest-eq0 : goal.returns-then-rest-eq0

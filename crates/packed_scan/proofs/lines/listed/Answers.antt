@@ -5,7 +5,7 @@ use Prim.Native.Nat.{ℕ}
 use mathlib.Core.Path.{◌≡◌, refl, ap, ◌∙◌}
 use native.Mathlib.Omega.{arith}
 use Rattle.rules.specs.Packing.{first_line, entries}
-use Rattle.rules.specs.Packing.Laws.{entry_at}
+use Rattle.rules.proofs.Packing.Laws.{entry_at}
 use Rattle.packed_scan.proofs.lines.listed.Goals as goal
 
 -- the entry of the byte that was made wide

@@ -9,7 +9,7 @@ use native.Mathlib.Omega.{arith}
 use borrow.Author.Tests.{ne_eqb}
 use Rattle.rules.specs.Lists.{range, member}
 use Rattle.rules.specs.Lists.Laws as Lists
-use Rattle.rules.specs.Tree.Laws.{right_pair}
+use Rattle.rules.proofs.Tree.Laws.{right_pair}
 use Rattle.tree.proofs.descent.goes_right.Goals as goal
 
 -- pairs below 4 are among those that choose right

@@ -1,7 +1,7 @@
 -- `reached` meets its contract: each node that it comes to is on the way down.
 -- Assumes nothing.
 use native.Mathlib.Omega.{arith}
-use Rattle.rules.specs.Tree.Laws.{way_begins, way_goes_on, way_ends, child_low}
+use Rattle.rules.proofs.Tree.Laws.{way_begins, way_goes_on, way_ends, child_low}
 use Rattle.tree.proofs.descent.reached.Goals as goal
 
 pub loop-u-init : goal.loop-u-init

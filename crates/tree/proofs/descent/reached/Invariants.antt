@@ -1,7 +1,7 @@
 -- `reached` meets its contract: each node that it comes to is on the way down.
 -- Assumes nothing.
 use Prim.Native.Nat.{◌-◌, ◌*◌}
-use Rattle.rules.specs.Tree.Laws.{OnWay}
+use Rattle.rules.proofs.Tree.Laws.{OnWay}
 use Rattle.tree.proofs.descent.reached.Given as goal
 
 abbrev pub invariant-loop-u : goal.invariant-loop-u

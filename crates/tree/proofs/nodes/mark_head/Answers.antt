@@ -4,7 +4,7 @@ use Prim.Native.Nat.{◌<◌}
 use mathlib.Core.Path.{ap}
 use native.Mathlib.Omega.{arith}
 use Rattle.rules.specs.RoundRobin.{start}
-use Rattle.rules.specs.RoundRobin.Laws.{start_at}
+use Rattle.rules.proofs.RoundRobin.Laws.{start_at}
 use Rattle.tree.proofs.Buffer.{request_bit, marked_none, marked_at}
 use Rattle.tree.proofs.nodes.mark_head.Goals as goal
 

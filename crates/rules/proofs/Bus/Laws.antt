@@ -5,7 +5,7 @@ use Rattle.std.proofs.Common.{arith, mod-lt}
 use Rattle.rules.specs.declared.Head.TheVariants.{At}
 use Rattle.rules.specs.Lists.{bit, count, member, marks, before}
 use Rattle.rules.specs.RoundRobin.{start, order}
-use Rattle.rules.specs.RoundRobin.Laws as RoundRobin
+use Rattle.rules.proofs.RoundRobin.Laws as RoundRobin
 use Rattle.rules.specs.Bus.{granted, grants, after, next}
 
 -- the token is a head of the order

@@ -9,7 +9,7 @@ use Rattle.rules.specs.Lists.{bit, count, before}
 use Rattle.rules.specs.Lists.Laws as Lists
 use Rattle.rules.specs.RoundRobin.{start, order}
 use Rattle.rules.specs.RoundRobin as RoundRobin
-use Rattle.rules.specs.RoundRobin.Laws as Laws
+use Rattle.rules.proofs.RoundRobin.Laws as Laws
 use Rattle.rules.specs.Thermometer.{code, is_code, add, saturated, grants}
 
 -- a code's ones are its count

@@ -10,7 +10,7 @@ use Rattle.rules.specs.declared.Head.TheVariants.{At}
 use Rattle.rules.specs.Lists.{bit, range, filter, count, before}
 use Rattle.rules.specs.Lists.Laws as Lists
 use Rattle.rules.specs.RoundRobin.{start, order, granted, grants, next}
-use Rattle.rules.specs.RoundRobin.Laws as RoundRobin
+use Rattle.rules.proofs.RoundRobin.Laws as RoundRobin
 use Rattle.rules.specs.Walk.{reached, RanBy, Ran}
 
 -- a run from a station on, of a walk that granted c₀ before it, the last of them z₀

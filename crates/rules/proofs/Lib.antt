@@ -1,0 +1,8 @@
+-- The laws of the rules.
+pub mod RoundRobin
+pub mod Walk
+pub mod Tree
+pub mod Thermometer
+pub mod KoggeStone
+pub mod Packing
+pub mod Bus

@@ -1,0 +1,2 @@
+-- What follows from the definitions of packed wires.
+pub mod Laws

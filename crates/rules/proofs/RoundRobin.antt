@@ -1,0 +1,2 @@
+-- What follows from the definitions of the round-robin rule.
+pub mod Laws

@@ -1,0 +1,4 @@
+-- What follows from the definitions of the thermometer code.
+pub mod Laws
+pub mod Running
+mod Known
