@@ -28,9 +28,9 @@ abbrev pub Chain : {C : Type 0} → (Head → C → Type 0) → (Head → C → 
 Chain right next h [] = Unit {0}
 Chain right next h (c ∷ cs) = right h c × Chain right next (next h c) cs
 
--- cycles that follow one another by the rule
+-- cycles that follow one another by the rule: each hands on its `next_head`
 abbrev pub Follows : ℕ → Head → List Cycle → Type 0
-Follows n h cs = Chain (Ruled n) (next_head n) h cs
+Follows n h cs = Chain (Ruled n) (λ h c. next n c.picks h c.asks) h cs
 
 -- station w waits: in each of them it asks and is not granted
 abbrev pub Waits : ℕ → List Cycle → Type 0

@@ -1,2 +1,3 @@
 mod Codes
 mod Steps
+pub mod Runs

@@ -7,7 +7,6 @@ use Rattle.rules.specs.Thermometer.{input, running}
 use Rattle.rules.specs.Walk as Walks
 use Rattle.arbiter.specs.Decisions.{requested}
 use Rattle.thermometer.specs.declared.Walk.{Walk}
-pub mod Laws
 
 -- no walk yet
 abbrev pub begun : Walk

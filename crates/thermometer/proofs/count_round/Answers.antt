@@ -10,7 +10,7 @@ use Rattle.rules.proofs.Walk.Laws as Walk
 use Rattle.arbiter.specs.Decisions.{counted}
 use Rattle.arbiter.specs.Decisions.Laws.{walked, quiet_decides, quiet_grants}
 use Rattle.arbiter.specs.Places.{highest}
-use Rattle.thermometer.specs.Runs.Laws.{hands_code, to_counts}
+use Rattle.thermometer.proofs.Runs.Laws.{hands_code, to_counts}
 use mir.Syntax.{fn₀}
 use Rattle.thermometer.specs.Trace.{trace, end, computes, calls, leaves, either}
 use Rattle.thermometer.proofs.count_round.Code as code

@@ -8,7 +8,7 @@ use lib.ListN.{get_or, length-set}
 use Rattle.rules.specs.Thermometer.{is_code, add}
 use Rattle.rules.proofs.Thermometer.Laws.{full_is_code, full_ones, code_few}
 use Rattle.rules.proofs.Walk.Laws as Walk
-use Rattle.thermometer.specs.Runs.Laws.{code_first, code_next, code_coded, to_codes}
+use Rattle.thermometer.proofs.Runs.Laws.{code_first, code_next, code_coded, to_codes}
 use mir.Syntax.{fn₀}
 use Rattle.thermometer.specs.Trace.{trace, end, computes, calls, leaves, either, repeats}
 use Rattle.thermometer.proofs.Steps as Steps

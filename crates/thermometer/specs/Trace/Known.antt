@@ -1,8 +1,8 @@
 -- Traces by computing: each kind of code once, and a loop in a loop.
 -- Assumes nothing.
 use Rattle.std.specs.Prelude.{◌≡◌, refl, [], ◌∷◌}
-use mir.Syntax.{opd_true, place, op1, op2, rv_opd, bit_not, bit_and, skip, seq, assign, block, loop, cond, switch, exit, return, call, fn₀, Body, arm, default, no_default}
-use Rattle.thermometer.specs.Trace.{end, computes, calls, leaves, either, repeats, trace}
+use mir.Syntax.{rattle_abi, tnil, ty_unit, c_unit, select, repeat_p, call_v, lend_static, unreachable, opd_true, place, op1, op2, rv_opd, bit_not, bit_and, skip, seq, assign, block, loop, cond, switch, exit, return, call, fn₀, Body, arm, default, no_default}
+use Rattle.thermometer.specs.Trace.{end, computes, calls, calls_pointer, leaves, either, repeats, trace}
 
 -- a copy, and operations of one and of two operands
 copied : Body
@@ -38,3 +38,12 @@ known_arms = refl
 known_loops : trace (seq (block (loop (seq (block (loop (seq (exit 1) called))) (exit 1)))) called) end
     ≡ repeats (repeats (leaves (calls (fn₀ "f") end)) (leaves end)) (calls (fn₀ "f") end)
 known_loops = refl
+
+-- a call through a pointer, a constant in memory, a choice of lanes, an array of one value, and code that is never reached
+known_others : trace
+    (seq (call_v opd_true (rattle_abi, tnil) [] (place 0 []))
+    (seq (lend_static (place 0 []) ty_unit c_unit)
+    (seq (assign (place 0 []) (select opd_true opd_true opd_true)) (seq (assign (place 0 []) (repeat_p opd_true 0)) unreachable))))
+    end
+    ≡ calls_pointer (computes (computes (leaves end)))
+known_others = refl

@@ -1,0 +1,2 @@
+-- What follows from what a run of the walk promises.
+pub mod Laws
