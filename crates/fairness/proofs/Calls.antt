@@ -24,7 +24,8 @@ use Rattle.arbiter.specs.Answers.Laws.{writes_refused}
 use Rattle.engines.specs.Calls.Laws.{Served, engine_served, engine_refused}
 use Rattle.token_bus.specs.Calls.Laws as BusLaws
 use Rattle.fairness.specs.Cycles as Cycles
-use Rattle.fairness.specs.Cycles.{Ruled, next_head, Chain, Follows}
+use Rattle.fairness.specs.Cycles.{Ruled, next_head, Chain}
+use Rattle.fairness.proofs.Cycles.{Follows}
 use Rattle.fairness.specs.Waiting.{By, Call, Made, cycle, bus_cycle, run, served, asks, granted, acknowledged}
 
 -- one more is kept, or is not

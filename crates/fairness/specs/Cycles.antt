@@ -1,5 +1,5 @@
 -- The wait rule over cycles of the round-robin rule by themselves, whatever it is that asks. Each cycle has a pick count of its own.
--- n is the width, 01's N; h is the head that a cycle gets.
+-- n is the width, 01's N; h is the head that a cycle gets. What is promised of them is `WaitingCycles`, with its proof.
 -- Assumes nothing.
 use Rattle.std.specs.Prelude.{ℕ, ◌+◌, ◌≤◌, ◌<◌, ◌≡◌, Bool, true, false, List, [], ◌∷◌}
 use Rattle.rules.specs.declared.Head.{Head}
@@ -28,10 +28,6 @@ abbrev pub Chain : {C : Type 0} → (Head → C → Type 0) → (Head → C → 
 Chain right next h [] = Unit {0}
 Chain right next h (c ∷ cs) = right h c × Chain right next (next h c) cs
 
--- cycles that follow one another by the rule: each hands on its `next_head`
-abbrev pub Follows : ℕ → Head → List Cycle → Type 0
-Follows n h cs = Chain (Ruled n) (λ h c. next n c.picks h c.asks) h cs
-
 -- station w waits: in each of them it asks and is not granted
 abbrev pub Waits : ℕ → List Cycle → Type 0
 Waits w [] = Unit {0}
@@ -46,8 +42,3 @@ total (c ∷ cs) = c.picks + total cs
 pub record BoundedPicks (n : ℕ) (cs : List Cycle) : Type 0 where
   pub short : total cs < n
   pub once : (v : ℕ) → count (λ c. c.grants v) cs ≤ 1
-
--- While a station waits, all that are granted stood before it at the start. So the pick counts add up to less than N, and nobody is
--- granted twice
-abbrev pub WaitingCycles : Type 0
-WaitingCycles = (n : ℕ) (h : Head) (w : ℕ) (cs : List Cycle) → w < n → Follows n h cs → Waits w cs → BoundedPicks n cs
