@@ -79,10 +79,10 @@ returns c =
     let array = c.args.input.now in
     let read = c.args.read in
     let size : length array ≡ read_size = omega arith in
-    let l = c.if-read-gt-MAX_INPUT.false in
+    let short = c.if-read-gt-MAX_INPUT.false in
     let e = c.unended-end.ensures in
-    let is = text_follows (take read array) (omega (arith, seen_whole array read size l, l)) in
-    let body = cut array read size c.unended-end.result l e.upper_bound e.input_value in
+    let is = text_follows (take read array) (omega (arith, seen_whole array read size short, short)) in
+    let body = cut array read size c.unended-end.result short e.upper_bound e.input_value in
     written array read size (omega arith)
     (same_put (sym is) (put_then c.put_all-at.ensures (same_put (ap follows body) c.answer.ensures))) in
     record { value = both.0; output_after = both.1.0; counts = both.1.1.0; input_len = both.1.1.1 }
