@@ -1,15 +1,24 @@
 -- `first_request` meets its contract: by the table in the byte of its line, and then in the next byte that is not 0.
 -- Assumes nothing.
-use Prim.Native.Nat.{◌/◌, ◌<◌}
-use mathlib.Core.Path.{sym, ◌∙◌}
-use native.Mathlib.Omega.{arith}
-use lib.ListN.{length}
+use Rattle.std.specs.Prelude.{ℕ, ◌+◌, ◌*◌, ◌/◌, ◌<◌, ◌≡◌, List, ◌++◌, length, take}
+use Rattle.std.proofs.Common.{sym, ◌∙◌, arith}
+use Rattle.rules.specs.declared.Head.TheVariants.{At}
+use Rattle.arbiter.specs.Places as Places
 use Rattle.packed_scan.specs.Lines.Laws.{set_home, some_entry, round_high, round_quiet, round_next, highest_zero, Next, next_some, next_none}
 use Rattle.packed_scan.proofs.first_request.Goals as goal
 
+-- the byte of the first line is there
+home : (requests : List ℕ) (line : ℕ) → line < 8 * length requests → line / 8 < length requests
+home requests line l = omega (arith, l)
+
+-- and the next that is not 0
+next : (requests : List ℕ) (line k : ℕ) → line < 8 * length requests
+    → At k ≡ Places.first (Places.nonzero (line / 8 + 1) requests ++ Places.nonzero 0 (take (line / 8 + 1) requests)) → Next requests (line / 8) k
+next requests line k l e = next_some requests (line / 8) (home requests line l) k (sym e)
+
 pub returns-then-line-lt8 : goal.returns-then-line-lt8
 returns-then-line-lt8 c =
-    let within : (let a = c.args in a.first / 8 < length a.requests.now) = omega (arith, c.requires.first_bound) in
+    let within = home c.args.requests.now c.args.first c.requires.first_bound in
     let a = c.args in
     let high = set_home a.requests.now a.first c.entry-line.result within c.entry-line.ensures c.if-line-lt8.true in
     round_high a.requests.now a.first _ (sym high)
@@ -21,39 +30,34 @@ returns-then-highest-eq0 c =
 
 pub next_byte-found-requires : goal.next_byte-found-requires
 next_byte-found-requires c =
-    let within : (let a = c.args in a.first / 8 < length a.requests.now) = omega (arith, c.requires.first_bound) in
-    within
+    home c.args.requests.now c.args.first c.requires.first_bound
 
 pub returns-in_default : goal.returns-in_default
 returns-in_default c =
-    let within : (let a = c.args in a.first / 8 < length a.requests.now) = omega (arith, c.requires.first_bound) in
+    let within = home c.args.requests.now c.args.first c.requires.first_bound in
     let a = c.args in
     round_quiet a.requests.now a.first
     (next_none a.requests.now (a.first / 8) within (sym c.next_byte-found.ensures ∙ c.in_default.is))
 
 pub overflow_mul-result-2 : goal.overflow_mul-result-2
 overflow_mul-result-2 c =
-    let within : (let a = c.args in a.first / 8 < length a.requests.now) = omega (arith, c.requires.first_bound) in
-    let next : (let a = c.args in Next a.requests.now (a.first / 8) c.in-At.byte) = (let a = c.args in next_some a.requests.now (a.first / 8) within _ (sym c.next_byte-found.ensures ∙ c.in-At.is)) in
-    omega (arith, next.within, c.requires.requests_len_bound)
+    let there = next c.args.requests.now c.args.first c.in-At.byte c.requires.first_bound c.in-At.ensures in
+    omega (arith, there.within, c.requires.requests_len_bound)
 
 pub bounds-requests-byte : goal.bounds-requests-byte
 bounds-requests-byte c =
-    let within : (let a = c.args in a.first / 8 < length a.requests.now) = omega (arith, c.requires.first_bound) in
-    let next : (let a = c.args in Next a.requests.now (a.first / 8) c.in-At.byte) = (let a = c.args in next_some a.requests.now (a.first / 8) within _ (sym c.next_byte-found.ensures ∙ c.in-At.is)) in
-    next.within
+    let there = next c.args.requests.now c.args.first c.in-At.byte c.requires.first_bound c.in-At.ensures in
+    there.within
 
 pub overflow_add-result-2 : goal.overflow_add-result-2
 overflow_add-result-2 c =
-    let within : (let a = c.args in a.first / 8 < length a.requests.now) = omega (arith, c.requires.first_bound) in
-    let next : (let a = c.args in Next a.requests.now (a.first / 8) c.in-At.byte) = (let a = c.args in next_some a.requests.now (a.first / 8) within _ (sym c.next_byte-found.ensures ∙ c.in-At.is)) in
-    let below : c.entry.result < 8 = (some_entry _ _ next.some (omega (arith, c.type_inv.requests c.in-At.byte)) c.entry.ensures) in
-    omega (arith, below, next.within, c.requires.requests_len_bound)
+    let there = next c.args.requests.now c.args.first c.in-At.byte c.requires.first_bound c.in-At.ensures in
+    let below : c.entry.result < 8 = (some_entry _ _ there.some (omega (arith, c.type_inv.requests c.in-At.byte)) c.entry.ensures) in
+    omega (arith, below, there.within, c.requires.requests_len_bound)
 
 pub returns : goal.returns
 returns c =
-    let within : (let a = c.args in a.first / 8 < length a.requests.now) = omega (arith, c.requires.first_bound) in
-    let next : (let a = c.args in Next a.requests.now (a.first / 8) c.in-At.byte) = (let a = c.args in next_some a.requests.now (a.first / 8) within _ (sym c.next_byte-found.ensures ∙ c.in-At.is)) in
-    let below : c.entry.result < 8 = (some_entry _ _ next.some (omega (arith, c.type_inv.requests c.in-At.byte)) c.entry.ensures) in
+    let there = next c.args.requests.now c.args.first c.in-At.byte c.requires.first_bound c.in-At.ensures in
+    let below : c.entry.result < 8 = (some_entry _ _ there.some (omega (arith, c.type_inv.requests c.in-At.byte)) c.entry.ensures) in
     let a = c.args in
-    round_next a.requests.now a.first c.entry-line.result _ _ within c.entry-line.ensures c.if-line-lt8.false next c.entry.ensures below
+    round_next a.requests.now a.first c.entry-line.result _ _ (home c.args.requests.now c.args.first c.requires.first_bound) c.entry-line.ensures c.if-line-lt8.false there c.entry.ensures below

@@ -1,6 +1,8 @@
 -- `grant` meets its contract.
 -- Assumes nothing.
-use Prim.Native.Nat.{ℕ, ◌+◌, ◌<◌}
+use Prim.Native.Nat.{ℕ, ◌+◌, ◌≤◌, ◌<◌}
+use mathlib.Core.Bool.{Bool}
+use mathlib.Core.List.{List}
 use mathlib.Core.Path.{◌≡◌, sym, ap, ◌∙◌}
 use native.Mathlib.Omega.{arith}
 use lib.ListN.{length, get_or, length-replicate}
@@ -10,25 +12,34 @@ use Rattle.arbiter.specs.Decisions.Laws.{counted_one}
 use Rattle.tree.specs.Steps.Laws.{descended_one, descended_none, grants_one, grants_none}
 use Rattle.tree.proofs.grant.Goals as goal
 
+-- a station is reached
+below : (n : ℕ) (t : List ℕ) {station : ℕ} → 1 ≤ n → station ≡ reached n t → station < n
+below n t some e = omega (arith, e, reached_station n t some)
+
+-- which asks if its node says so
+asks : (n : ℕ) (t : List ℕ) {station : ℕ} {bit : Bool} → station ≡ reached n t → bit ≡ s0 (get_or t (n + station) 0)
+    → bit ≡ s0 (get_or t (n + reached n t) 0)
+asks n t e b = b ∙ ap (λ (w : ℕ). s0 (get_or t (n + w) 0)) e
+
 pub overflow_add-leaf : goal.overflow_add-leaf
 overflow_add-leaf c =
-    let below : (let a = c.args in c.reached-station.result < a.width) = (omega (arith, c.reached-station.ensures, reached_station c.args.width c.args.nodes.now c.requires.le_width)) in
+    let below = below c.args.width c.args.nodes.now c.requires.le_width c.reached-station.ensures in
     omega (arith, below, c)
 
 pub bounds-nodes-leaf : goal.bounds-nodes-leaf
 bounds-nodes-leaf c =
-    let below : (let a = c.args in c.reached-station.result < a.width) = (omega (arith, c.reached-station.ensures, reached_station c.args.width c.args.nodes.now c.requires.le_width)) in
+    let below = below c.args.width c.args.nodes.now c.requires.le_width c.reached-station.ensures in
     omega (arith, below)
 
 pub bounds-grants-station : goal.bounds-grants-station
 bounds-grants-station c =
-    let below : (let a = c.args in c.reached-station.result < a.width) = (omega (arith, c.reached-station.ensures, reached_station c.args.width c.args.nodes.now c.requires.le_width)) in
+    let below = below c.args.width c.args.nodes.now c.requires.le_width c.reached-station.ensures in
     omega (arith, below, ap length c.requires.grants_value, length-replicate {A = ℕ} c.args.width 0)
 
 pub returns-then-s0 : goal.returns-then-s0
 returns-then-s0 c =
-    let below : (let a = c.args in c.reached-station.result < a.width) = (omega (arith, c.reached-station.ensures, reached_station c.args.width c.args.nodes.now c.requires.le_width)) in
-    let asks : (let a = c.args in c.s0.result ≡ s0 (get_or a.nodes.now (a.width + reached a.width a.nodes.now) 0)) = (let a = c.args in c.s0.ensures ∙ ap (λ (w : ℕ). s0 (get_or a.nodes.now (a.width + w) 0)) c.reached-station.ensures) in
+    let below = below c.args.width c.args.nodes.now c.requires.le_width c.reached-station.ensures in
+    let asks = asks c.args.width c.args.nodes.now c.reached-station.ensures c.s0.ensures in
     let a = c.args in
     let e = c.reached-station.ensures in
     let yes = sym asks ∙ c.if-s0.true in
@@ -39,7 +50,7 @@ returns-then-s0 c =
 
 pub returns : goal.returns
 returns c =
-    let asks : (let a = c.args in c.s0.result ≡ s0 (get_or a.nodes.now (a.width + reached a.width a.nodes.now) 0)) = (let a = c.args in c.s0.ensures ∙ ap (λ (w : ℕ). s0 (get_or a.nodes.now (a.width + w) 0)) c.reached-station.ensures) in
+    let asks = asks c.args.width c.args.nodes.now c.reached-station.ensures c.s0.ensures in
     let a = c.args in
     let no_one = sym asks ∙ c.if-s0.false in
     record {
