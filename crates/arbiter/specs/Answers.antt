@@ -1,12 +1,13 @@
 -- The states and answers that calls return: 01, "Questions each call asks", its last paragraph.
 -- Assumes nothing.
-use Rattle.std.specs.Prelude.{ℕ, cond, List, eqb}
-use Rattle.rules.specs.declared.Head.{Head}
-use Rattle.rules.specs.declared.Head.TheVariants.{None}
+use Rattle.std.specs.Prelude.{ℕ, List, None, Result, Ok, Err}
+use Rattle.rules.specs.Head.{Head}
 use Rattle.arbiter.specs.declared.Answer.{Answer}
 use Rattle.arbiter.specs.declared.Decision.{Decision}
 use Rattle.arbiter.specs.declared.State.{State}
-use Rattle.arbiter.specs.declared.question.Verdict.{Verdict}
+use Rattle.arbiter.specs.declared.refusal.Refusal.{Refusal}
+use Rattle.arbiter.specs.Questions.{Verdict}
+use Rattle.arbiter.specs.Refusals as Refusals
 pub mod Laws
 
 -- the state that N, m and a head make
@@ -21,25 +22,56 @@ moved s h = record { width = s.width; picks = s.picks; head = h }
 abbrev pub nothing : State
 nothing = made 0 0 None
 
--- a served call: number and place 0, the count of grants and the state
+-- "An answer is a number (0 when served)": that of what was served or refused
+abbrev pub number_of : {A : Type 0} → Result A Refusal → ℕ
+number_of (Ok a) = 0
+number_of (Err refusal) = Refusals.number refusal
+
+-- "a place"
+abbrev pub place_of : {A : Type 0} → Result A Refusal → ℕ
+place_of (Ok a) = 0
+place_of (Err refusal) = Refusals.place refusal
+
+-- "the count of grants"; "A refusal returns count 0"
+abbrev pub count_of : Result ℕ Refusal → ℕ
+count_of (Ok count) = count
+count_of (Err refusal) = 0
+
+-- an answer's number, place and count; its state stands in it
+abbrev pub number : Answer → ℕ
+number a = number_of a.outcome
+
+abbrev pub place : Answer → ℕ
+place a = place_of a.outcome
+
+abbrev pub count : Answer → ℕ
+count a = count_of a.outcome
+
+-- a served call: the count of grants and the state
 abbrev pub served : ℕ → State → Answer
-served count s = record { number = 0; place = 0; count = count; state = s }
+served count s = record { outcome = Ok count; state = s }
 
 -- a served cycle given the state s: the count of grants, and the state with the next head
 abbrev pub decided : State → Decision → Answer
 decided s d = served d.count (moved s d.next)
 
--- a refused call: "count 0 and the state as given"
-abbrev pub refused : Verdict → State → Answer
-refused v s = record { number = v.number; place = v.place; count = 0; state = s }
+-- a refused call: its refusal "and the state as given"
+abbrev pub refused : Refusal → State → Answer
+refused refusal s = record { outcome = Err refusal; state = s }
 
--- one thing where no question refuses, another where one does
-unfoldable pub if_passed : {A : Type 0} → Verdict → A → A → A
-if_passed v a b = cond (eqb v.number 0) a b
+-- a call that was given the state s
+abbrev pub answered : State → Result Decision Refusal → Answer
+answered s (Ok d) = decided s d
+answered s (Err refusal) = refused refusal s
+
+-- one thing where no question refuses, another, by the refusal, where one does
+abbrev pub if_passed : {A : Type 0} → Verdict → A → (Refusal → A) → A
+if_passed (Ok _) a b = a
+if_passed (Err refusal) a b = b refusal
 
 -- a call that makes the state of N, m and a head
 abbrev pub opened : Verdict → ℕ → ℕ → Head → Answer
-opened v n m h = if_passed v (served 0 (made n m h)) (refused v nothing)
+opened v n m h = if_passed v (served 0 (made n m h)) (λ refusal. refused refusal nothing)
 
 -- what a call that writes a buffer leaves: its answer, and the bytes that the buffer then holds
 pub record Outcome : Type 0 where
@@ -47,6 +79,8 @@ pub record Outcome : Type 0 where
   pub written : List ℕ
 
 -- a call given the state s, which writes these bytes if it is served; a refusal "writes nothing"
-unfoldable pub writes : Verdict → State → Answer → List ℕ → List ℕ → Outcome
+abbrev pub writes : Verdict → State → Answer → List ℕ → List ℕ → Outcome
 writes v s answer bytes former =
-    if_passed v (record { answer = answer; written = bytes }) (record { answer = refused v s; written = former })
+    if_passed v
+    (record { answer = answer; written = bytes })
+    (λ refusal. record { answer = refused refusal s; written = former })

@@ -2,12 +2,12 @@
 -- Kogge-Stone arbiter. The tree grants by the same rule.
 -- Assumes nothing.
 use Rattle.std.specs.Prelude.{ℕ, Bool, List, length}
-use Rattle.rules.specs.declared.Head.{Head}
+use Rattle.rules.specs.Head.{Head}
 use Rattle.rules.specs.RoundRobin.{grants}
 use Rattle.arbiter.specs.declared.Answer.{Answer}
 use Rattle.arbiter.specs.declared.State.{State}
-use Rattle.arbiter.specs.declared.question.Verdict.{Verdict}
 use Rattle.arbiter.specs.Questions as Questions
+use Rattle.arbiter.specs.Questions.{Verdict, ◌then◌}
 use Rattle.arbiter.specs.Decisions.{requested, decision}
 use Rattle.arbiter.specs.Answers.{Outcome, decided, opened, writes}
 
@@ -28,8 +28,11 @@ abbrev pub granting : State → List ℕ → List ℕ
 granting s requests = grants s.width s.picks s.head (asking s requests)
 
 -- the questions of a cycle with these requests and a grant buffer of this length: 1, 3, 4, 5, 6 and 8
+abbrev pub asked : ℕ → ℕ → Head → List ℕ → ℕ → Verdict
+asked n m h requests size = Questions.state n m h then Questions.cycle n requests size
+
 abbrev pub questions : State → List ℕ → ℕ → Verdict
-questions s requests size = (Questions.cycle (Questions.state s.width s.picks s.head) s.width requests size).verdict
+questions s requests size = asked s.width s.picks s.head requests size
 
 -- a cycle, with the grant buffer's former bytes
 abbrev pub cycle : State → List ℕ → List ℕ → Outcome

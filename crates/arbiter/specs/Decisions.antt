@@ -1,8 +1,8 @@
 -- What a cycle by the round-robin rule decides, apart from any state: 01, "The turn rule".
 -- Assumes nothing.
 use Rattle.std.specs.Prelude.{ℕ, ◌+◌, Bool, cond, List, [], eqb, ltb, length, get_or}
-use Rattle.rules.specs.declared.Head.{Head}
-use Rattle.rules.specs.declared.Head.TheVariants.{At}
+use Rattle.rules.specs.Head.{Head}
+use Rattle.std.specs.Prelude.{Some}
 use Rattle.rules.specs.RoundRobin.{granted, after, next}
 use Rattle.arbiter.specs.declared.Decision.{Decision}
 pub mod Laws
@@ -20,10 +20,14 @@ decision n m h asks = record { count = length (granted n m h asks); next = next 
 abbrev pub deciding : ℕ → Head → List ℕ → Decision
 deciding n h gs = record { count = length gs; next = after n h gs }
 
+-- what a call decides that is no cycle: nobody is granted, and the head is this
+abbrev pub headed : Head → Decision
+headed h = record { count = 0; next = h }
+
 -- one past station w of n, and 0 after the last
 abbrev pub past : ℕ → ℕ → ℕ
 past n w = cond (ltb (w + 1) n) (w + 1) 0
 
 -- the same as deciding, told by how many are granted and whom the cycle grants last
 abbrev pub counted : ℕ → Head → ℕ → ℕ → Decision
-counted n h c w = cond (eqb c 0) (deciding n h []) (record { count = c; next = At (past n w) })
+counted n h c w = cond (eqb c 0) (deciding n h []) (record { count = c; next = Some (past n w) })

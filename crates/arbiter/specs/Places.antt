@@ -1,8 +1,6 @@
 -- The bytes of a buffer: the places at which a byte passes a test, and the highest byte.
 -- Assumes nothing.
-use Rattle.std.specs.Prelude.{ℕ, ◌-◌, ◌*◌, ◌≤◌, ◌<◌, max, Bool, List, [], ◌∷◌, eqb, ltb, length, get_or}
-use Rattle.rules.specs.declared.Head.{Head}
-use Rattle.rules.specs.declared.Head.TheVariants.{None, At}
+use Rattle.std.specs.Prelude.{ℕ, ◌-◌, ◌*◌, ◌≤◌, ◌<◌, max, Bool, List, [], ◌∷◌, eqb, ltb, length, get_or, Option, None, Some}
 use Rattle.rules.specs.Lists.{range, filter}
 use Rattle.rules.specs.Packing.{unpack}
 pub mod Laws
@@ -24,9 +22,9 @@ abbrev pub set_lines : ℕ → List ℕ → List ℕ
 set_lines from packed = ones from (unpack (8 * length packed) packed)
 
 -- the first of some places, or none
-abbrev pub first : List ℕ → Head
+abbrev pub first : List ℕ → Option ℕ
 first [] = None
-first (p ∷ ps) = At p
+first (p ∷ ps) = Some p
 
 -- every byte is 0 or 1
 abbrev pub Bits : List ℕ → Type 0

@@ -1,57 +1,30 @@
-// The questions of 01, one function for each. A call asks those that concern it in 01's order, and the first that refuses
-// decides.
-ghost use Rattle.std.specs.Prelude.{◌≡◌};
+// The questions of 01, one function for each: `Ok` where a question passes, and else its refusal. A call asks those that concern it
+// in 01's order, and the first that refuses decides.
+ghost use Rattle.std.specs.Prelude.{◌≡◌, Ok};
+ghost use Rattle.arbiter.specs.Places.{highest};
 ghost use Rattle.arbiter.specs.Questions as Questions;
 ghost use Rattle.arbiter.specs.Questions.{◌then◌};
 
+use crate::refusal::Refusal;
 use crate::search::highest;
-use crate::{MAX_PICKS, MAX_WIDTH, refusal};
+use crate::{MAX_PICKS, MAX_WIDTH};
 use rules::Head;
 
-// What a question says: the number and the place of its refusal, both 0 where it does not refuse.
-#[derive(Clone, Copy)]
-pub struct Verdict {
-    pub number: usize,
-    pub place: usize,
-}
+// What a question says.
+pub type Verdict = Result<(), Refusal>;
 
-// What the questions say of a call that reads bits: the verdict, and the highest byte, 0 where the bytes were not read.
-#[derive(Clone, Copy)]
-pub struct Reading {
-    pub verdict: Verdict,
-    pub highest: u8,
-}
-
-impl Verdict {
-    // This verdict if it refuses, and else the next question's.
-    pub fn then(self, next: Verdict) -> Verdict
-        ensures { result ≡ (self then next) }
-    {
-        if self.number != refusal::SERVED {
-            return self;
-        }
-        next
-    }
-}
-
-// The verdict of a question with this number: yes passes, no refuses at a place.
-pub fn refuse_unless(yes: bool, number: usize, place: usize) -> Verdict
-    ensures { result ≡ Questions.refuse_unless yes number place }
+// The verdict of a question: yes passes, no refuses.
+pub fn refuse_unless(yes: bool, refusal: Refusal) -> Verdict
+    ensures { result ≡ Questions.refuse_unless yes refusal }
 {
-    if yes {
-        return Verdict {
-            number: refusal::SERVED,
-            place: 0,
-        };
-    }
-    Verdict { number, place }
+    if yes { Ok(()) } else { Err(refusal) }
 }
 
 // Question 1: is the width in 1 to `MAX_WIDTH`?
 pub fn width(width: usize) -> Verdict
     ensures { result ≡ Questions.width width }
 {
-    refuse_unless((1 <= width) & (width <= MAX_WIDTH), refusal::WIDTH, 0)
+    refuse_unless((1 <= width) & (width <= MAX_WIDTH), Refusal::Width)
 }
 
 // Question 3: are the picks in 1 to `MAX_PICKS`, and no more than the stations?
@@ -60,8 +33,7 @@ pub fn picks(width: usize, picks: usize) -> Verdict
 {
     refuse_unless(
         (1 <= picks) & (picks <= MAX_PICKS) & (picks <= width),
-        refusal::PICKS,
-        0,
+        Refusal::Picks,
     )
 }
 
@@ -69,7 +41,7 @@ pub fn picks(width: usize, picks: usize) -> Verdict
 pub fn one_pick(picks: usize) -> Verdict
     ensures { result ≡ Questions.one_pick picks }
 {
-    refuse_unless(picks == 1, refusal::PICKS, 0)
+    refuse_unless(picks == 1, Refusal::Picks)
 }
 
 // Question 4: is the head none or a station?
@@ -77,8 +49,8 @@ pub fn head(width: usize, head: Head) -> Verdict
     ensures { result ≡ Questions.head width head }
 {
     match head {
-        Head::None => refuse_unless(true, refusal::HEAD, 0),
-        Head::At(h) => refuse_unless(h < width, refusal::HEAD, 0),
+        None => Ok(()),
+        Some(h) => refuse_unless(h < width, Refusal::HeadRange),
     }
 }
 
@@ -86,78 +58,63 @@ pub fn head(width: usize, head: Head) -> Verdict
 pub fn read_length(stated: usize, length: usize) -> Verdict
     ensures { result ≡ Questions.read_length stated length }
 {
-    refuse_unless(length == stated, refusal::READ_LENGTH, 0)
+    refuse_unless(length == stated, Refusal::ReadLength)
 }
 
 // Question 6: is the buffer to be written as long as stated?
 pub fn write_length(stated: usize, length: usize) -> Verdict
     ensures { result ≡ Questions.write_length stated length }
 {
-    refuse_unless(length == stated, refusal::WRITE_LENGTH, 0)
+    refuse_unless(length == stated, Refusal::WriteLength)
 }
 
 // Question 8: is every byte from `from` on 0 or 1? The place of a refusal is that of the first that is not.
 pub fn bits(from: usize, bytes: &[u8]) -> Verdict
     ensures { result ≡ Questions.bits from bytes.now }
 {
-    let mut i = from;
-    while i < bytes.len() {
+    for i in from..bytes.len() {
         if 1 < bytes[i] {
-            return refuse_unless(false, refusal::NOT_A_BIT, i);
+            return Err(Refusal::NotABit(i));
         }
-        i += 1;
     }
-    refuse_unless(true, refusal::NOT_A_BIT, 0)
+    Ok(())
 }
 
-// Question 8 after others that read nothing, whose verdict is `unread`. Where those refuse it does not read either; and a place
-// is looked for only where the highest byte shows that there is one.
-pub fn read(unread: Verdict, bytes: &[u8]) -> Reading
-    ensures { result ≡ Questions.read unread bytes.now }
+// Question 8 of all bytes, with the highest of them where it passes. A place is looked for only where the highest byte shows that
+// there is one.
+pub fn read(bytes: &[u8]) -> Result<u8, Refusal>
+    ensures { result ≡ (Questions.bits 0 bytes.now then Ok (highest bytes.now)) }
 {
-    if unread.number != refusal::SERVED {
-        return Reading {
-            verdict: unread,
-            highest: 0,
-        };
-    }
     let high = highest(bytes);
-    if high <= 1 {
-        return Reading {
-            verdict: refuse_unless(true, refusal::NOT_A_BIT, 0),
-            highest: high,
-        };
+    if 1 < high {
+        bits(0, bytes)?;
     }
-    Reading {
-        verdict: bits(0, bytes),
-        highest: high,
-    }
+    Ok(high)
 }
 
 // Questions 1, 3 and 4.
 pub fn state(width: usize, picks: usize, head: Head) -> Verdict
     ensures { result ≡ Questions.state width picks head }
 {
-    let by_width = self::width(width);
-    let by_picks = self::picks(width, picks);
-    let by_head = self::head(width, head);
-    by_width.then(by_picks).then(by_head)
+    self::width(width)?;
+    self::picks(width, picks)?;
+    self::head(width, head)
 }
 
 // Questions 1, 3, 4 and 6 of a call that writes what a state holds to a buffer.
 pub fn write(width: usize, picks: usize, head: Head, stated: usize, length: usize) -> Verdict
     ensures { result ≡ Questions.write width picks head stated length }
 {
-    let by_state = state(width, picks, head);
-    let by_length = write_length(stated, length);
-    by_state.then(by_length)
+    state(width, picks, head)?;
+    write_length(stated, length)
 }
 
-// Questions 5, 6 and 8 of a cycle, after those about its state, whose verdict is `by_state`. Its grant buffer has `length` bytes.
-pub fn cycle(by_state: Verdict, width: usize, requests: &[u8], length: usize) -> Reading
-    ensures { result ≡ Questions.cycle by_state width requests.now length }
+// Questions 5, 6 and 8 of a cycle, after those about its state, with the highest byte of the requests where they pass. Its grant
+// buffer has `length` bytes.
+pub fn cycle(width: usize, requests: &[u8], length: usize) -> Result<u8, Refusal>
+    ensures { result ≡ (Questions.cycle width requests.now length then Ok (highest requests.now)) }
 {
-    let by_requests = read_length(width, requests.len());
-    let by_grants = write_length(width, length);
-    read(by_state.then(by_requests).then(by_grants), requests)
+    read_length(width, requests.len())?;
+    write_length(width, length)?;
+    read(requests)
 }

@@ -1,30 +1,68 @@
-// The numbers of the questions of 01 and 02, by which a call refuses. `SERVED` is the number of an answer that is no refusal.
-pub const SERVED: usize = 0;
+// Why a call refuses: the questions of 01 and 02 by name.
+ghost use Rattle.std.specs.Prelude.{◌≡◌};
+ghost use Rattle.arbiter.specs.Refusals as Refusals;
 
-pub const WIDTH: usize = 1;
+// A refusal, by the question that was answered no. The byte questions name the place that they refuse.
+#[derive(Clone, Copy, Debug, PartialEq, Eq)]
+pub enum Refusal {
+    Width,
+    TreeWidth,
+    Picks,
+    HeadRange,
+    ReadLength,
+    WriteLength,
+    NodesLength,
+    NotABit(usize),
+    Acknowledge,
+    SecondOne(usize),
+    FirstLine,
+    InputLength,
+    Code,
+    UnusedBit(usize),
+}
 
-pub const TREE_WIDTH: usize = 2;
+impl Refusal {
+    // The number of the question.
+    pub fn number(self) -> usize
+        ensures { result ≡ Refusals.number self }
+    {
+        match self {
+            Refusal::Width => 1,
+            Refusal::TreeWidth => 2,
+            Refusal::Picks => 3,
+            Refusal::HeadRange => 4,
+            Refusal::ReadLength => 5,
+            Refusal::WriteLength => 6,
+            Refusal::NodesLength => 7,
+            Refusal::NotABit(_) => 8,
+            Refusal::Acknowledge => 9,
+            Refusal::SecondOne(_) => 10,
+            Refusal::FirstLine => 11,
+            Refusal::InputLength => 12,
+            Refusal::Code => 13,
+            Refusal::UnusedBit(_) => 14,
+        }
+    }
 
-pub const PICKS: usize = 3;
-
-pub const HEAD: usize = 4;
-
-pub const READ_LENGTH: usize = 5;
-
-pub const WRITE_LENGTH: usize = 6;
-
-pub const NODES_LENGTH: usize = 7;
-
-pub const NOT_A_BIT: usize = 8;
-
-pub const ACKNOWLEDGE: usize = 9;
-
-pub const SECOND_ONE: usize = 10;
-
-pub const FIRST_LINE: usize = 11;
-
-pub const INPUT_LENGTH: usize = 12;
-
-pub const CODE: usize = 13;
-
-pub const UNUSED_BIT: usize = 14;
+    // The place that is refused: 0 except for 8, 10 and 14.
+    pub fn place(self) -> usize
+        ensures { result ≡ Refusals.place self }
+    {
+        match self {
+            Refusal::NotABit(place) => place,
+            Refusal::SecondOne(place) => place,
+            Refusal::UnusedBit(place) => place,
+            Refusal::Width => 0,
+            Refusal::TreeWidth => 0,
+            Refusal::Picks => 0,
+            Refusal::HeadRange => 0,
+            Refusal::ReadLength => 0,
+            Refusal::WriteLength => 0,
+            Refusal::NodesLength => 0,
+            Refusal::Acknowledge => 0,
+            Refusal::FirstLine => 0,
+            Refusal::InputLength => 0,
+            Refusal::Code => 0,
+        }
+    }
+}

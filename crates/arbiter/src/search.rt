@@ -4,43 +4,37 @@ ghost use Rattle.std.specs.Int.Count.{count_trailing_zeros};
 ghost use Rattle.arbiter.specs.Places as Places;
 ghost use Rattle.arbiter.specs.Words as Words;
 
-use rules::Head;
-
 // The highest byte, or 0 where there is none. It reads every byte and never returns early, so that many are compared at once.
 pub fn highest(bytes: &[u8]) -> u8
     ensures { result ≡ Places.highest bytes.now }
 {
     let mut high: u8 = 0;
-    let mut i: usize = 0;
-    while i < bytes.len() {
-        if high < bytes[i] {
-            high = bytes[i];
+    for byte in bytes {
+        if high < *byte {
+            high = *byte;
         }
-        i += 1;
     }
     high
 }
 
-// The place of the first 1 from `from` on, or none.
-pub fn first_one(from: usize, bytes: &[u8]) -> Head
+// The place of the first 1 from `from` on, or none. Each search goes on behind the place that the last one found, so no range counts
+// the steps.
+pub fn first_one(from: usize, bytes: &[u8]) -> Option<usize>
     ensures { result ≡ Places.first (Places.ones from bytes.now) }
 {
     let mut i = from;
     loop {
-        let found = first_nonzero(i, bytes);
-        let Head::At(place) = found else {
-            return Head::None;
-        };
+        let place = first_nonzero(i, bytes)?;
         if bytes[place] == 1 {
-            return Head::At(place);
+            return Some(place);
         }
         i = place + 1;
     }
 }
 
 // The place of the first byte from `from` on that is not 0, or none. It looks at eight bytes at a time, and at the last few one by
-// one.
-pub fn first_nonzero(from: usize, bytes: &[u8]) -> Head
+// one: the index goes by eights, and what is left begins where it ends.
+pub fn first_nonzero(from: usize, bytes: &[u8]) -> Option<usize>
     ensures { result ≡ Places.first (Places.nonzero from bytes.now) }
 {
     if bytes.len() < 8 {
@@ -51,7 +45,7 @@ pub fn first_nonzero(from: usize, bytes: &[u8]) -> Head
     while i <= last {
         let word = eight(bytes, i);
         if word != 0 {
-            return Head::At(i + lowest_byte(word));
+            return Some(i + lowest_byte(word));
         }
         i += 8;
     }
@@ -59,17 +53,15 @@ pub fn first_nonzero(from: usize, bytes: &[u8]) -> Head
 }
 
 // The same, one byte at a time.
-fn first_of_few(from: usize, bytes: &[u8]) -> Head
+fn first_of_few(from: usize, bytes: &[u8]) -> Option<usize>
     ensures { result ≡ Places.first (Places.nonzero from bytes.now) }
 {
-    let mut i = from;
-    while i < bytes.len() {
+    for i in from..bytes.len() {
         if bytes[i] != 0 {
-            return Head::At(i);
+            return Some(i);
         }
-        i += 1;
     }
-    Head::None
+    None
 }
 
 // The eight bytes from `i` on as one number, the first of them lowest. The compiler makes one load of it.
@@ -77,35 +69,21 @@ fn eight(bytes: &[u8], i: usize) -> u64
     requires { i + 8 ≤ length bytes.now }
     ensures { result ≡ Words.number (take 8 (drop i bytes.now)) }
 {
-    four(bytes, i) + four(bytes, i + 4) * 0x1_0000_0000
+    u64::from_le_bytes([
+        bytes[i],
+        bytes[i + 1],
+        bytes[i + 2],
+        bytes[i + 3],
+        bytes[i + 4],
+        bytes[i + 5],
+        bytes[i + 6],
+        bytes[i + 7],
+    ])
 }
 
-// Four of them.
-fn four(bytes: &[u8], i: usize) -> u64
-    requires { i + 4 ≤ length bytes.now }
-    ensures { (result ≡ Words.number (take 4 (drop i bytes.now))) × (result < 4294967296) }
-{
-    two(bytes, i) + two(bytes, i + 2) * 0x1_0000
-}
-
-// And two.
-fn two(bytes: &[u8], i: usize) -> u64
-    requires { i + 2 ≤ length bytes.now }
-    ensures { (result ≡ Words.number (take 2 (drop i bytes.now))) × (result < 65536) }
-{
-    wide(bytes[i]) + wide(bytes[i + 1]) * 0x100
-}
-
-// A byte as a wide number.
-fn wide(byte: u8) -> u64
-    ensures { (result ≡ byte) × (result < 256) }
-{
-    byte as u64
-}
-
-// Which byte of a number is the lowest that is not 0: 8 where all are.
+// Which byte of a number is the lowest that is not 0: 8 where all are. The cast loses nothing, and there is no `From` for it.
 fn lowest_byte(word: u64) -> usize
     ensures { result ≡ count_trailing_zeros 64 word / 8 }
 {
-    (u64::trailing_zeros(word) / 8) as usize
+    (word.trailing_zeros() / 8) as usize
 }

@@ -2,13 +2,14 @@
 -- rule"; 02 adds calls and questions. What a call answers and writes is said by the definition that its contract cites.
 -- Assumes nothing.
 use Rattle.std.specs.Prelude.{ℕ, ◌<◌, ◌≡◌, List, [], ◌∷◌, eqb}
-use Rattle.rules.specs.declared.Head.{Head}
-use Rattle.rules.specs.declared.Head.TheVariants.{At}
+use Rattle.rules.specs.Head.{Head}
+use Rattle.std.specs.Prelude.{Some}
 use Rattle.rules.specs.Lists.{count}
 use Rattle.rules.specs.Packing.{unpack}
 use Rattle.arbiter.specs.declared.Answer.{Answer}
 use Rattle.arbiter.specs.declared.State.{State}
-use Rattle.arbiter.specs.Answers.{Outcome, moved, nothing}
+use Rattle.arbiter.specs.Answers as Answers
+use Rattle.arbiter.specs.Answers.{Outcome, moved, nothing, number, place, number_of, place_of}
 use Rattle.one_hot.specs.Calls as OneHot
 use Rattle.packed_scan.specs.Calls as PackedScan
 use Rattle.snapshot.specs.Calls as Snapshot
@@ -91,25 +92,26 @@ made (snapshot_write s former) = writing (Snapshot.write s former) s former
 abbrev pub HeadAfter : Type 0
 HeadAfter =
     (c : Cycle) → let r = ran c in
-    r.answer.number ≡ 0 → (k : ℕ) × (k < r.given.width) × (r.answer.state ≡ moved r.given (At k))
+    number r.answer ≡ 0 → (k : ℕ) × (k < r.given.width) × (r.answer.state ≡ moved r.given (Some k))
 
 -- "the count of grants (0 for a call that is no cycle)": a served call counts the grants that are 1
 abbrev pub GrantsCounted : Type 0
-GrantsCounted = (c : Call) → let r = made c in r.answer.number ≡ 0 → r.answer.count ≡ count (λ b. eqb b 1) r.grants
+GrantsCounted = (c : Call) → let r = made c in number r.answer ≡ 0 → Answers.count r.answer ≡ count (λ b. eqb b 1) r.grants
 
 -- "A refusal returns count 0 and the state as given, and writes nothing"
 abbrev pub RefusedAsGiven : Type 0
 RefusedAsGiven =
     (c : Call) → let r = made c in
-    (r.answer.number ≡ 0 → ⊥) → (r.answer.count ≡ 0) × (r.answer.state ≡ r.given) × (r.left ≡ r.lent)
+    (number r.answer ≡ 0 → ⊥) → (Answers.count r.answer ≡ 0) × (r.answer.state ≡ r.given) × (r.left ≡ r.lent)
 
 -- "a place (0 except for 8 and 10)", and 02, N2: "14, with the byte's place"
 abbrev pub Placed : ℕ → ℕ → Type 0
 Placed number place = (number ≡ 8 → ⊥) → (number ≡ 10 → ⊥) → (number ≡ 14 → ⊥) → place ≡ 0
 
 abbrev pub PlaceZero : Type 0
-PlaceZero = (c : Call) → let r = made c in Placed r.answer.number r.answer.place
+PlaceZero = (c : Call) → let r = made c in Placed (number r.answer) (place r.answer)
 
 -- "The adder's answer is a number, a place and a code; refused, it returns code 0". It asks none that has a place
 abbrev pub AdderAnswers : Type 0
-AdderAnswers = (m a b : ℕ) → let s = Adder.sum m a b in (s.place ≡ 0) × ((s.number ≡ 0 → ⊥) → s.code ≡ 0)
+AdderAnswers =
+    (m a b : ℕ) → let s = Adder.sum m a b in (place_of s ≡ 0) × ((number_of s ≡ 0 → ⊥) → Adder.code_of s ≡ 0)

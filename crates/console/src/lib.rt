@@ -16,7 +16,7 @@ pub fn run<R: Read, W: Write>(input: &mut R, output: &mut W) -> io::Result<()>
     let mut bytes = [0u8; transcript::READ_SIZE];
     let read = read_full(input, &mut bytes)?;
     let mut text = [0u8; transcript::LIMIT];
-    let length = transcript::run(&bytes, read, &mut text);
+    let length = transcript::run(&bytes[..read], &mut text);
     output.write_all(&text[..length])
 }
 

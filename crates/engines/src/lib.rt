@@ -2,9 +2,9 @@
 #![tactic(auto)]
 
 ghost use Rattle.std.specs.Prelude.{◌≡◌};
-ghost use Rattle.rules.specs.declared.Head.TheVariants as Head;
 ghost use Rattle.engines.specs.Calls as Calls;
 
+use arbiter::engine::{Arbiter, RoundRobin};
 use arbiter::{Answer, State};
 use kogge_stone::KoggeStone;
 use scan::Scan;
@@ -12,7 +12,7 @@ use thermometer::Thermometer;
 use tree::Tree;
 
 // The engines that grant by the round-robin rule.
-#[derive(Clone, Copy)]
+#[derive(Clone, Copy, Debug, PartialEq, Eq)]
 pub enum Engine {
     Scan,
     Tree,
@@ -27,7 +27,7 @@ pub struct Dispatch(pub State);
 impl Dispatch {
     // Opens an engine with no head. Asks what the engine's own opening asks: 1, 3 and 4, the tree 2 after 1.
     pub fn open(engine: Engine, width: usize, picks: usize) -> Answer
-        ensures { result ≡ Calls.opening engine width picks Head.None }
+        ensures { result ≡ Calls.opening engine width picks None }
     {
         match engine {
             Engine::Scan => Scan::open(width, picks),
@@ -39,7 +39,7 @@ impl Dispatch {
 
     // Opens an engine with a head. Asks the same.
     pub fn open_at(engine: Engine, width: usize, picks: usize, head: usize) -> Answer
-        ensures { result ≡ Calls.opening engine width picks (Head.At head) }
+        ensures { result ≡ Calls.opening engine width picks (Some head) }
     {
         match engine {
             Engine::Scan => Scan::open_at(width, picks, head),

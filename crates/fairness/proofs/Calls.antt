@@ -9,8 +9,8 @@ use native.Mathlib.Omega.{arith}
 use lib.Dec.{ltb, eqb}
 use lib.ListN.{get_or, get_or-eq_default}
 use borrow.Author.Tests.{ltb-true, ltb-false, eqb-true, eqb-false}
-use Rattle.rules.specs.declared.Head.{Head}
-use Rattle.rules.specs.declared.Head.TheVariants.{At}
+use Rattle.rules.specs.Head.{Head}
+use Rattle.std.specs.Prelude.{Some}
 use Rattle.rules.specs.Lists.{bit, member}
 use Rattle.rules.specs.Lists.Laws as Lists
 use Rattle.rules.specs.RoundRobin as Rule
@@ -19,7 +19,7 @@ use Rattle.rules.proofs.RoundRobin.Laws as Laws
 use Rattle.rules.specs.Bus as BusRule
 use Rattle.arbiter.specs.declared.Answer.{Answer}
 use Rattle.arbiter.specs.declared.State.{State}
-use Rattle.arbiter.specs.Answers.{Outcome, moved}
+use Rattle.arbiter.specs.Answers.{Outcome, moved, number}
 use Rattle.arbiter.specs.Answers.Laws.{writes_refused}
 use Rattle.engines.specs.Calls.Laws.{Served, engine_served, engine_refused}
 use Rattle.token_bus.specs.Calls.Laws as BusLaws
@@ -41,9 +41,9 @@ module _ {How : Type 0} (leaves : How → State → List ℕ → List ℕ → Ou
     (next : Head → Made How → Head)
     (serves : (h : Head) (c : Call How) → let o = leaves c.how (moved s h) c.requests c.grants in
     let made : Made How = record { call = c; left = o } in
-    o.answer.number ≡ 0 → right h made × (o.answer.state ≡ moved s (next h made)))
+    number o.answer ≡ 0 → right h made × (o.answer.state ≡ moved s (next h made)))
     (refuses : (h : Head) (c : Call How) → let o = leaves c.how (moved s h) c.requests c.grants in
-    (o.answer.number ≡ 0 → ⊥) → o.answer.state ≡ moved s h) where
+    (number o.answer ≡ 0 → ⊥) → o.answer.state ≡ moved s h) where
   -- from the state that a call returned
   from : (k : Head) (q : State) (calls : List (Call How)) → q ≡ moved s k → Chain right next k (served (run leaves (moved s k) calls))
       → Chain right next k (served (run leaves q calls))
@@ -54,7 +54,7 @@ module _ {How : Type 0} (leaves : How → State → List ℕ → List ℕ → Ou
   follows h (c ∷ cs) =
       let o = leaves c.how (moved s h) c.requests c.grants in
       let made : Made How = record { call = c; left = o } in
-      kept right next h made _ (eqb o.answer.number 0)
+      kept right next h made _ (eqb (number o.answer) 0)
       (λ t. let r = serves h c (eqb-true _ 0 t) in (r.0, from (next h made) _ cs r.1 (follows (next h made) cs)))
       (λ f. from h _ cs (refuses h c (eqb-false _ 0 f)) (follows h cs))
 
@@ -115,7 +115,7 @@ BusRight s h c = BusLaws.Served (moved s h) c.call.requests c.call.how c.left
 
 -- the token after it, as a head
 abbrev pub next_token : State → Head → Made ℕ → Head
-next_token s h c = At (BusRule.next s.width (start h) (acknowledged c) (λ w. asks w c))
+next_token s h c = Some (BusRule.next s.width (start h) (acknowledged c) (λ w. asks w c))
 
 -- the served calls of a list of bus calls follow the bus's rule
 pub bus_cycles : (s : State) (calls : List (Call ℕ)) → Chain (BusRight s) (next_token s) s.head (served (run bus_cycle s calls))
@@ -124,6 +124,6 @@ bus_cycles s calls =
     (λ h c z.
     let r = BusLaws.cycle_served (moved s h) c.requests c.grants c.how z in
     (r, ap (λ (a : Answer). a.state) r.answers))
-    (λ h c n. (writes_refused _ (moved s h) _ _ c.grants refl n).0)
+    (λ h c n. (BusLaws.cycle_refused (moved s h) c.requests c.grants c.how n).0)
     s.head
     calls

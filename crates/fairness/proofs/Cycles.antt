@@ -8,8 +8,8 @@ use native.Mathlib.Omega.{arith}
 use lib.Dec.{ltb, eqb}
 use lib.ListN.{length, length-append}
 use borrow.Author.Tests.{ltb-true, ltb-false}
-use Rattle.rules.specs.declared.Head.{Head}
-use Rattle.rules.specs.declared.Head.TheVariants.{At}
+use Rattle.rules.specs.Head.{Head}
+use Rattle.std.specs.Prelude.{Some}
 use Rattle.rules.specs.Lists.{bit, filter, count, member, before}
 use Rattle.rules.specs.Lists.Laws as Lists
 use Rattle.rules.specs.RoundRobin.{start, order, granted, next}
@@ -210,9 +210,9 @@ waiting_cycles n h w (c ∷ cs) station follow waits =
 
 -- the bus: with the token one on, one station fewer stands before w
 pub bus_nearer : (n t w : ℕ) → t < n → w < n → eqb w t ≡ false
-    → suc (length (before w (order n (At ((t + 1) % n))))) ≡ length (before w (order n (At t)))
+    → suc (length (before w (order n (Some ((t + 1) % n))))) ≡ length (before w (order n (Some t)))
 bus_nearer n t w token station other =
     let head = BusLaws.token_head n t token in
-    let r = rw (Laws.start_at t) at (Laws.order_turned n (At t) head) in
-    let later : member w r.0 ≡ true = rw (r.1, other) at (Laws.order_member n (At t) w (omega arith) station) in
+    let r = rw (Laws.start_at t) at (Laws.order_turned n (Some t) head) in
+    let later : member w r.0 ≡ true = rw (r.1, other) at (Laws.order_member n (Some t) w (omega arith) station) in
     rw (r.1, r.2, Lists.before_left w r.0 (t ∷ []) later, other)

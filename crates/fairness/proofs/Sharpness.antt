@@ -10,8 +10,8 @@ use native.Mathlib.Omega.{arith}
 use lib.Dec.{ltb, eqb}
 use lib.ListN.{length, get_or, take, replicate, length-append, length-replicate, get_or-replicate}
 use borrow.Author.Tests.{ltb-true, ltb-false, lt-ltb, le-ltb, eqb-true, eq-eqb}
-use Rattle.rules.specs.declared.Head.{Head}
-use Rattle.rules.specs.declared.Head.TheVariants.{None, At}
+use Rattle.rules.specs.Head.{Head}
+use Rattle.std.specs.Prelude.{None, Some}
 use Rattle.rules.specs.Lists.{range, count, member, before}
 use Rattle.rules.specs.Lists.Laws as Lists
 use Rattle.rules.specs.RoundRobin.{start, order, granted, next}
@@ -21,8 +21,8 @@ use Rattle.rules.proofs.Bus.Laws as BusLaws
 use Rattle.arbiter.specs.declared.Answer.{Answer}
 use Rattle.arbiter.specs.declared.State.{State}
 use Rattle.arbiter.specs.Places.{Bits}
-use Rattle.arbiter.specs.Questions.{◌then◌}
-use Rattle.arbiter.specs.Answers.{Outcome, if_passed, made, moved}
+use Rattle.arbiter.specs.Questions.{◌then◌, passed}
+use Rattle.arbiter.specs.Answers.{Outcome, if_passed, made, moved, number}
 use Rattle.arbiter.specs.Answers.Laws.{opened_passed}
 use Rattle.engines.specs.declared.Engine.{Engine}
 use Rattle.engines.specs.declared.Engine.TheVariants.{Scan}
@@ -116,7 +116,7 @@ module _ {How : Type 0} (leaves : How → State → List ℕ → List ℕ → Ou
   -- `good` is what is known of the head before it
   module _ (good : Head → Type 0)
       (serves : (h : Head) → good h → let o = (once h).left in
-      (o.answer.number ≡ 0) × (o.answer.state ≡ moved s (next h)) × good (next h)) where
+      (number o.answer ≡ 0) × (o.answer.state ≡ moved s (next h)) × good (next h)) where
     from : (q : State) (h : Head) (k : ℕ) → q ≡ moved s h → served (run leaves (moved s h) (replicate k c)) ≡ repeated h k
         → served (run leaves q (replicate k c)) ≡ repeated h k
     from q h k e f = rw e f
@@ -156,7 +156,7 @@ module _ (s : State) (e : Engine) (opens : Serves e s) where
   first_good = (opens_allowed e s.width s.picks s.head opens).station
 
   call_serves : (h : Head) → good h → let o = cycle call.how (moved s h) call.requests call.grants in
-      (o.answer.number ≡ 0) × (o.answer.state ≡ moved s (after h)) × good (after h)
+      (number o.answer ≡ 0) × (o.answer.state ≡ moved s (after h)) × good (after h)
   call_serves h g =
       let n = s.width in
       let z =
@@ -260,7 +260,6 @@ module _ (s : State) (e : Engine) (opens : Serves e s) where
 -- two stations, one pick: one waits while the other is granted
 pub other_once : (times : ℕ) → ((s : State) (w : ℕ) (waiting : List (Made By)) → Wait s w waiting → (v : ℕ) → count (Waiting.granted v) waiting < times)
     → 2 ≤ times
-unfolding ◌then◌ if_passed
 other_once times claim =
     let s = made 2 1 None in
     let r = waits_wait s Scan refl 1 (omega arith) in
@@ -273,10 +272,10 @@ module _ (s : State) (opens : BusServes s) where
 
   -- a head that is a token
   abbrev token : Head → Type 0
-  token h = (BusCalls.state s.width s.picks h).number ≡ 0
+  token h = BusCalls.state s.width s.picks h ≡ passed
 
   abbrev bus_after : Head → Head
-  bus_after h = At (Bus.next s.width (start h) true (everyone s.width))
+  bus_after h = Some (Bus.next s.width (start h) true (everyone s.width))
 
   first_token : token s.head
   first_token = opened_passed _ s.width s.picks s.head opens
@@ -285,7 +284,7 @@ module _ (s : State) (opens : BusServes s) where
   bus_once h = once bus_cycle s bus_call bus_after h
 
   bus_call_serves : (h : Head) → token h → let o = (bus_once h).left in
-      (o.answer.number ≡ 0) × (o.answer.state ≡ moved s (bus_after h)) × token (bus_after h)
+      (number o.answer ≡ 0) × (o.answer.state ≡ moved s (bus_after h)) × token (bus_after h)
   bus_call_serves h g =
       let n = s.width in
       let z =
@@ -302,7 +301,7 @@ module _ (s : State) (opens : BusServes s) where
 
   module _ (w : ℕ) (station : w < s.width) where
     abbrev bus_far : Head → ℕ
-    bus_far h = length (before w (order s.width (At (start h))))
+    bus_far h = length (before w (order s.width (Some (start h))))
 
     -- a cycle that grants another
     passed_by : (h : Head) → token h → 1 ≤ bus_far h → Waiting.granted w (bus_once h) ≡ false
@@ -312,9 +311,9 @@ module _ (s : State) (opens : BusServes s) where
         let t = start h in
         let r = BusCallLaws.cycle_served (moved s h) (ones n) (replicate n 0) 1 (bus_call_serves h g).0 in
         let head = BusLaws.token_head n t r.token in
-        let out : member w (granted n 1 (At t) (everyone n)) ≡ false =
-        Laws.granted_member n 1 (At t) (everyone n) w (omega arith) station
-        ∙ rw (asks_all n w station, before_asks n (At t) w (omega arith) station, le-ltb (bus_far h) 1 l) in
+        let out : member w (granted n 1 (Some t) (everyone n)) ≡ false =
+        Laws.granted_member n 1 (Some t) (everyone n) w (omega arith) station
+        ∙ rw (asks_all n w station, before_asks n (Some t) w (omega arith) station, le-ltb (bus_far h) 1 l) in
         rw (r.grants, BusLaws.grants_member n t (everyone n) w station, out)
 
     -- the token moves one on
@@ -327,12 +326,12 @@ module _ (s : State) (opens : BusServes s) where
         let to : Bus.next n t true (everyone n) ≡ (t + 1) % n =
         BusLaws.next_acknowledged n t (everyone n) (BusLaws.granted_some n t w (everyone n) r.token station (asks_all n w station)) in
         let at : start (bus_after h) ≡ (t + 1) % n = Laws.start_at _ ∙ to in
-        let first : before t (order n (At t)) ≡ [] = rw (Laws.start_at t) at (Laws.before_first n (At t) head) in
+        let first : before t (order n (Some t)) ≡ [] = rw (Laws.start_at t) at (Laws.before_first n (Some t) head) in
         let other : eqb w t ≡ false =
         Lists.split (eqb w t)
-        (λ e. absurd (omega (arith, ap (λ (v : ℕ). length (before v (order n (At t)))) (eqb-true w t e), ap length first)))
+        (λ e. absurd (omega (arith, ap (λ (v : ℕ). length (before v (order n (Some t)))) (eqb-true w t e), ap length first)))
         (λ f. f) in
-        omega (arith, ap (λ (u : ℕ). length (before w (order n (At u)))) at, bus_nearer n t w r.token station other)
+        omega (arith, ap (λ (u : ℕ). length (before w (order n (Some u)))) at, bus_nearer n t w r.token station other)
 
     bus_waits_pass : (k : ℕ) → k ≤ bus_far s.head → count (λ c. acknowledged c && Waiting.granted w c) (bus_waits k) ≡ 0
     bus_waits_pass k l =
@@ -344,7 +343,7 @@ module _ (s : State) (opens : BusServes s) where
   bus_no_sooner k l claim =
       let n = s.width in
       let t = (BusCallLaws.allowed n s.picks s.head first_token).station in
-      let r = last_station n (At (start s.head)) (BusLaws.token_head n (start s.head) t) in
+      let r = last_station n (Some (start s.head)) (BusLaws.token_head n (start s.head) t) in
       let w = r.0 in
       let are = all_served bus_cycle s bus_call bus_after token bus_call_serves k s.head first_token in
       omega (

@@ -11,8 +11,8 @@ use native.Mathlib.Nat.{le-div_iff_mul-le}
 use lib.Dec.{ltb, eqb}
 use lib.ListN.{length, get_or, take, drop, length-take, take-append-drop, get_or-eq_default}
 use borrow.Author.Tests.{ltb-true, ltb-false, eqb-true, eq-eqb}
-use Rattle.rules.specs.declared.Head.{Head}
-use Rattle.rules.specs.declared.Head.TheVariants.{At}
+use Rattle.rules.specs.Head.{Head}
+use Rattle.std.specs.Prelude.{Some}
 use Rattle.rules.specs.Lists.{bit, count, before}
 use Rattle.rules.specs.Lists.Laws as Lists
 use Rattle.rules.specs.RoundRobin.{start, order}
@@ -187,7 +187,7 @@ granted_in_time s e opens = record {
 module _ (s : State) (w : ℕ) where
   -- how many stand before w, from a head that is the token
   distance : Head → ℕ
-  distance h = length (before w (order s.width (At (start h))))
+  distance h = length (before w (order s.width (Some (start h))))
 
   -- more acknowledged cycles than stations before w: one of them grants w
   acknowledged_grant : (cs : List (Made ℕ)) (h : Head) → Chain (BusRight s) (next_token s) h cs → Each (asks w) cs
@@ -201,8 +201,8 @@ module _ (s : State) (w : ℕ) where
       let r = chain.0 in
       let station = asking_station c.call.requests n w r.asked asking.0 in
       let k = next_token s h c in
-      let at : distance k ≡ length (before w (order n (At (Bus.next n t (acknowledged c) (λ v. asks v c))))) =
-      ap (λ (u : ℕ). length (before w (order n (At u)))) (Laws.start_at _) in
+      let at : distance k ≡ length (before w (order n (Some (Bus.next n t (acknowledged c) (λ v. asks v c))))) =
+      ap (λ (u : ℕ). length (before w (order n (Some u)))) (Laws.start_at _) in
       Lists.split (acknowledged c)
       (λ a.
       Lists.split (granted w c)
@@ -215,7 +215,7 @@ module _ (s : State) (w : ℕ) where
       (omega (
         arith,
         acknowledged_grant cs k chain.1 asking.1
-            (omega (arith, at, ap (λ (u : ℕ). length (before w (order n (At u)))) to, bus_nearer n t w r.token station other, ap bit a)),
+            (omega (arith, at, ap (λ (u : ℕ). length (before w (order n (Some u)))) to, bus_nearer n t w r.token station other, ap bit a)),
       ))))
       (λ a.
       let stays : Bus.next n t (acknowledged c) (λ v. asks v c) ≡ t = rw a (BusLaws.next_unacknowledged n t (λ v. asks v c)) in
@@ -223,7 +223,7 @@ module _ (s : State) (w : ℕ) where
       (omega (
         arith,
         acknowledged_grant cs k chain.1 asking.1
-            (omega (arith, at, ap (λ (u : ℕ). length (before w (order n (At u)))) stays, ap bit a)),
+            (omega (arith, at, ap (λ (u : ℕ). length (before w (order n (Some u)))) stays, ap bit a)),
       )))
     where
       not_at_token : granted w c ≡ false → eqb w (start h) ≡ false
@@ -254,7 +254,7 @@ module _ (s : State) (opens : BusServes s) where
           let station = asking_station c.call.requests s.width w r.asked each.0 in
           let head = BusLaws.token_head s.width (start h) r.token in
           acknowledged_grant s w (c ∷ cs) h chain each
-          (omega (arith, Laws.before_length s.width (At (start h)) w (omega arith) station))
+          (omega (arith, Laws.before_length s.width (Some (start h)) w (omega arith) station))
 
   bus_least : (exactly : ℕ) → GrantedAcknowledged s exactly → s.width ≤ exactly
   bus_least exactly claim =

@@ -2,7 +2,7 @@
 -- n is the width, 01's N; h is the head that a cycle gets. What is promised of them is `WaitingCycles`, with its proof.
 -- Assumes nothing.
 use Rattle.std.specs.Prelude.{ℕ, ◌+◌, ◌≤◌, ◌<◌, ◌≡◌, Bool, true, false, List, [], ◌∷◌}
-use Rattle.rules.specs.declared.Head.{Head}
+use Rattle.rules.specs.Head.{Head}
 use Rattle.rules.specs.Lists.{count, member}
 use Rattle.rules.specs.RoundRobin as Rule
 use Rattle.rules.specs.RoundRobin.{start, next}

@@ -4,7 +4,7 @@
 use Rattle.std.specs.Prelude.{ℕ, ◌+◌, ◌-◌, ◌/◌, ◌≤◌, ◌<◌, ◌≡◌, Bool, true, false, ◌&&◌, List, [], ◌∷◌, ◌++◌, ◌⊎◌, eqb, length, get_or, take}
 use Rattle.rules.specs.Lists.{filter, count}
 use Rattle.arbiter.specs.declared.State.{State}
-use Rattle.arbiter.specs.Answers.{Outcome}
+use Rattle.arbiter.specs.Answers.{Outcome, number}
 use Rattle.engines.specs.declared.Engine.{Engine}
 use Rattle.engines.specs.Calls as Engines
 use Rattle.token_bus.specs.Calls as Bus
@@ -45,7 +45,7 @@ run leaves s (c ∷ cs) =
 
 -- the served ones of a list; two that stand side by side here "follow one another", since "only refused ones lie between"
 abbrev pub served : {How : Type 0} → List (Made How) → List (Made How)
-served made = filter (λ c. eqb c.left.answer.number 0) made
+served made = filter (λ c. eqb (number c.left.answer) 0) made
 
 -- station w asks: "the call is given 1 for its wire"
 abbrev pub asks : {How : Type 0} → ℕ → Made How → Bool
@@ -71,7 +71,7 @@ OneLeast = (claim : ℕ → Type 0) (j k : ℕ) → Least claim j → Least clai
 
 -- an engine serves a state: it opens with it
 abbrev pub Serves : Engine → State → Type 0
-Serves e s = (Engines.opening e s.width s.picks s.head).number ≡ 0
+Serves e s = number (Engines.opening e s.width s.picks s.head) ≡ 0
 
 -- "A state that no engine serves gives only refusals, and nothing is then counted"
 abbrev pub UnservedRefused : Type 0
@@ -122,7 +122,7 @@ GrantedInTime = (s : State) (e : Engine) → Serves e s → Least (GrantedWithin
 
 -- the bus serves a state
 abbrev pub BusServes : State → Type 0
-BusServes s = (Bus.opening s.width s.picks s.head).number ≡ 0
+BusServes s = number (Bus.opening s.width s.picks s.head) ≡ 0
 
 -- of a state that it does not serve, as above
 abbrev pub BusUnservedRefused : Type 0

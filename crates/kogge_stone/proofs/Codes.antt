@@ -1,6 +1,6 @@
 -- The join of two codes by a product, and codes that are joined.
 -- Assumes nothing.
-use Prim.Native.Nat.{ℕ, ◌+◌, ◌*◌, ◌-◌, ◌^◌, ◌≤◌, ◌<◌}
+use Prim.Native.Nat.{ℕ, ◌+◌, ◌*◌, ◌-◌, ◌^◌, ◌≤◌, ◌<◌, min}
 use mathlib.Core.Path.{◌≡◌, ap, ap₂, ◌∙◌}
 use mathlib.Core.Bool.{true}
 use mathlib.Core.List.{List}
@@ -10,7 +10,7 @@ use lib.Count.{ones}
 use lib.Dec.{ltb}
 use lib.ListN.{length, get_or, get_or-eq_default}
 use lib.Pow.{ones_split, suc_ones}
-use borrow.Author.Tests.{ltb-true, lt-ltb, ltb-false, le-ltb}
+use borrow.Author.Tests.{ltb-true, ltb-false}
 use Rattle.rules.specs.Thermometer.{code, is_code, add}
 use Rattle.rules.proofs.Thermometer.Laws.{code_own, code_below, add_is_code, zero_is_code}
 use Rattle.rules.specs.Lists.Laws as Lists
@@ -34,21 +34,19 @@ module _ (full left right : ℕ) (f : is_code 8 full ≡ true) (l : is_code (one
   sum =
       ap₂ (λ (x y : ℕ). x * y + x + y) (code_own (ones full) left l) (code_own (ones full) right r) ∙ product (ones left) (ones right)
 
-  -- a sum below the code of the picks is their join
-  pub small : left * right + left + right < full → left * right + left + right ≡ add (ones full) left right
+  -- the sum, or the code of the picks if that is smaller, is their join
+  pub joins : min (left * right + left + right) full ≡ add (ones full) left right
   unfolding add
-  small u =
-      let few = ltb-true (ones left + ones right) (ones full)
-      (rw code_below at (lt-ltb (code (ones left + ones right)) (code (ones full)) (omega (arith, sum, code_own 8 full f)))) in
-      sum ∙ ap code (omega arith)
-
-  -- and else that code is
-  pub large : full ≤ left * right + left + right → full ≡ add (ones full) left right
-  unfolding add
-  large u =
-      let many = ltb-false (ones left + ones right) (ones full)
-      (rw code_below at (le-ltb (code (ones left + ones right)) (code (ones full)) (omega (arith, sum, code_own 8 full f)))) in
-      code_own 8 full f ∙ ap code (omega arith)
+  joins =
+      let both = ones left + ones right in
+      let own = code_own 8 full f in
+      Lists.split (ltb both (ones full))
+      (λ t.
+      let few : min (ones full) both ≡ both = omega (arith, ltb-true both (ones full) t) in
+      rw few (omega (arith, sum, own, ltb-true (code both) (code (ones full)) (code_below both (ones full) ∙ t))))
+      (λ n.
+      let many : min (ones full) both ≡ ones full = omega (arith, ltb-false both (ones full) n) in
+      rw many (omega (arith, sum, own, ltb-false (code both) (code (ones full)) (code_below both (ones full) ∙ n))))
 
 -- joined at a distance codes stay codes
 pub joined_codes : (m d : ℕ) (codes : List ℕ) → Codes m codes → Codes m (joined m d codes)

@@ -12,7 +12,7 @@ use lib.Dec.{ltb}
 use lib.ListN.{length, get_or, take, drop, length-drop}
 use lib.Seq.{ext_get_or, get_or-take, get_or-drop, take_all}
 use borrow.Author.Tests.{ltb-true, ltb-false, lt-ltb, le-ltb}
-use Rattle.rules.specs.declared.Head.{Head}
+use Rattle.rules.specs.Head.{Head}
 use Rattle.rules.specs.Lists.{bit, before}
 use Rattle.rules.specs.Lists.Laws as Lists
 use Rattle.rules.specs.RoundRobin as RoundRobin
@@ -42,26 +42,26 @@ module _ (full : ℕ) (h : Head) (requests : List ℕ) (coded : is_code 8 full �
   cs = running_codes n m h asks
 
   -- the grants by the counts before the positions
-  grants_serial : granted full (start h) requests (take (n - 0) cs) ≡ Thermometer.grants n m h asks
+  grants_serial : granted full (start h) requests (take n cs) ≡ Thermometer.grants n m h asks
   unfolding Thermometer.grants
   grants_serial =
-      ext_get_or 0 (granted full (start h) requests (take (n - 0) cs)) (Thermometer.grants n m h asks)
+      ext_get_or 0 (granted full (start h) requests (take n cs)) (Thermometer.grants n m h asks)
       (Grants.long full (start h) requests _ ∙ sym (Lists.length_table _ 0 n))
       (λ w l.
-      let u : w < n = omega (arith, Grants.long full (start h) requests (take (n - 0) cs)) in
+      let u : w < n = omega (arith, Grants.long full (start h) requests (take n cs)) in
       let p = length (before w (order n h)) in
-      let few : ltb (get_or (take (n - 0) cs) p 0) full ≡ ltb (saturated n m h asks w) m =
+      let few : ltb (get_or (take n cs) p 0) full ≡ ltb (saturated n m h asks w) m =
       rw (
-        get_or-take (n - 0) cs p 0 (omega (arith, before_length n h w (omega arith) u)),
+        get_or-take n cs p 0 (omega (arith, before_length n h w (omega arith) u)),
         code_before n m h asks (omega arith) w u,
         ← code_below (saturated n m h asks w) m,
         ← code_own 8 full coded,
       ) in
-      Grants.at full (start h) requests (take (n - 0) cs) w u
+      Grants.at full (start h) requests (take n cs) w u
       ∙ rw (← before_position n h w u, few)
       (sym (Lists.get_d_table (λ (v : ℕ). bit (asks v && ltb (saturated n m h asks v) m)) 0 n w u ∙ rw zero-add)))
 
-  pub grants_rule : granted full (start h) requests (take (n - 0) cs) ≡ RoundRobin.grants n m h asks
+  pub grants_rule : granted full (start h) requests (take n cs) ≡ RoundRobin.grants n m h asks
   grants_rule = grants_serial ∙ grants_round_robin n m h asks (omega arith)
 
   abbrev total : ℕ
@@ -131,13 +131,13 @@ module _ (full : ℕ) (h : Head) (requests : List ℕ) (coded : is_code 8 full �
     pub given_length : length given ≡ suc n
     given_length = ap length is ∙ codes_length n m h asks (omega arith)
 
-    pub decides : (f c q v : ℕ) (new : List ℕ) → f ≡ start h → new ≡ granted full f requests (take (n - 0) given)
-        → c ≡ ones (get_or given n 0) → q ≡ length (before (get_or given n 0) (take (n + 1 - 1) (drop 1 given))) → v ≡ station n f q
+    pub decides : (f c q v : ℕ) (new : List ℕ) → f ≡ start h → new ≡ granted full f requests (take n given)
+        → c ≡ ones (get_or given n 0) → q ≡ length (before (get_or given n 0) (take (length given - 1) (drop 1 given))) → v ≡ station n f q
         → (counted n h c v ≡ decision n m h asks) × (new ≡ RoundRobin.grants n m h asks)
     decides f c q v new ef eg ec eq ev =
-        let rest : n + 1 - 1 ≡ n = omega arith in
         let bytes : new ≡ RoundRobin.grants n m h asks = eg ∙ rw (ef, is) grants_rule in
-        let place : q ≡ p = eq ∙ rw (rest, is, take_all n later (omega (arith, many))) in
+        let rest : take (length given - 1) (drop 1 given) ≡ drop 1 given = take_all (length given - 1) (drop 1 given) (simp length-drop (omega arith)) in
+        let place : q ≡ p = eq ∙ rw (rest, is) in
         let here : v ≡ w = ev ∙ rw (ef, place) in
         let sum : c ≡ ones total = ec ∙ rw is in
         (ap₂ (counted n h) sum here ∙ walked n m h asks (read bytes), bytes)

@@ -3,4 +3,3 @@ mod Counts
 mod Fill
 mod Grants
 mod Order
-mod Pieces

@@ -8,8 +8,8 @@ use lib.Dec.{leb}
 use lib.ListN.{length, get_or, take, drop, length-drop, drop_of_length-le}
 use lib.Seq.{drop-cons, take_all}
 use borrow.Author.Tests.{leb-true, leb-false}
-use Rattle.rules.specs.declared.Head.{Head}
-use Rattle.rules.specs.declared.Head.TheVariants.{None, At}
+use Rattle.rules.specs.Head.{Head}
+use Rattle.std.specs.Prelude.{None, Some}
 use Rattle.rules.specs.Lists.{range}
 use Rattle.rules.specs.Lists.Laws as Lists
 use Rattle.rules.specs.RoundRobin.{start}
@@ -48,7 +48,7 @@ module _ (m : ℕ) (requests : List ℕ) (some : 1 ≤ m) (wires : Bits requests
         Lists.split (leb f (length requests))
         (λ t.
         let l = leb-true f (length requests) t in
-        rw (rotated ∙ (rw start_at at (ordered (At f) (rw start_at l)))) (inputs_codes (length requests) m (At f) (requested requests)))
+        rw (rotated ∙ (rw start_at at (ordered (Some f) (rw start_at l)))) (inputs_codes (length requests) m (Some f) (requested requests)))
         (λ n.
         let l : length requests ≤ f = omega (arith, leb-false f (length requests) n) in
         let same : codes ≡ requests = rotated ∙ rw (drop_of_length-le requests l, take_all f requests l) in

@@ -1,7 +1,7 @@
 -- What the steps of a cycle promise. The promise of the arbiter's calls is arbiter's Cycle, and that of the network rules'
 -- KoggeStone.
 -- Assumes nothing.
-use Rattle.std.specs.Prelude.{ℕ, ◌+◌, ◌-◌, ◌<◌, ◌≡◌, true, cond, ◌&&◌, List, map, ltb, leb, length, get_or}
+use Rattle.std.specs.Prelude.{ℕ, ◌+◌, ◌-◌, ◌<◌, ◌≡◌, true, cond, ◌&&◌, List, map, ltb, length, get_or}
 use Rattle.rules.specs.Lists.{bit, range}
 use Rattle.rules.specs.Thermometer.{is_code}
 use Rattle.arbiter.specs.Decisions.{requested}
@@ -22,11 +22,9 @@ station n first p = cond (ltb p (n - first)) (first + p) (p - (n - first))
 abbrev pub grant_of : ℕ → List ℕ → ℕ → ℕ → ℕ
 grant_of full requests count w = bit (requested requests w && ltb count full)
 
--- the grants of the stations from one on, of which `counts` has the count before each; the other bytes stay
-unfoldable pub granted_from : ℕ → ℕ → List ℕ → List ℕ → List ℕ → List ℕ
-granted_from full from requests counts old =
-    map (λ w. cond (leb from w && ltb w (from + length counts)) (grant_of full requests (get_or counts (w - from) 0) w) (get_or old w 0))
-    (range 0 (length old))
+-- the grants of a run of stations, of which `counts` has the count before each
+unfoldable pub granted_run : ℕ → List ℕ → List ℕ → List ℕ
+granted_run full requests counts = map (λ w. grant_of full requests (get_or counts w 0) w) (range 0 (length requests))
 
 -- the grants of all by the counts before the positions
 unfoldable pub granted : ℕ → ℕ → List ℕ → List ℕ → List ℕ

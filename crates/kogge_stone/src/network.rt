@@ -11,22 +11,21 @@ ghost use Rattle.kogge_stone.specs.Steps.{Codes};
 
 use arbiter::first_station;
 use rules::Head;
+use thermometer::adder::Picks;
 
 // Writes what comes out of the network: for each position of the order the code of how many ask up to it, its own station included,
-// or of the picks where those are fewer. `full` is the code of the picks. `before` is room for as many codes, whatever it holds.
-pub(crate) fn run(full: u8, head: Head, requests: &[u8], codes: &mut [u8], before: &mut [u8])
-    requires full_value { Rule.is_code 8 full ≡ true }
-    requires bound { 1 ≤ ones full }
+// or of the picks where those are fewer. `before` is room for as many codes, whatever it holds.
+pub(crate) fn run(picks: Picks, head: Head, requests: &[u8], codes: &mut [u8], before: &mut [u8])
     requires head_in_bounds { start head < length requests.now }
     requires requests_len_bound { length requests.now ≤ max_width }
     requires bits { Bits requests.now }
     requires codes_len { length codes.old ≡ length requests.now }
     requires before_len { length before.old ≡ length requests.now }
-    ensures { codes.new ≡ Network.network (length requests.now) (ones full) head (requested requests.now) }
+    ensures { codes.new ≡ Network.network (length requests.now) (ones picks.code) head (requested requests.now) }
 {
     let first = first_station(head);
     rotate(first, requests, codes);
-    join_all(full, codes, before);
+    join_all(picks, codes, before);
 }
 
 // Writes the requests in the order that starts at station `first`.
@@ -35,66 +34,48 @@ fn rotate(first: usize, requests: &[u8], ordered: &mut [u8])
     requires ordered_len { length ordered.old ≡ length requests.now }
     ensures { ordered.new ≡ drop first requests.now ++ take first requests.now }
 {
-    let width = requests.len();
-    let high = width - first;
-    copy(&requests[first..width], &mut ordered[0..high]);
-    copy(&requests[0..first], &mut ordered[high..width]);
+    let (low, high) = requests.split_at(first);
+    let (earlier, later) = ordered.split_at_mut(high.len());
+    earlier.copy_from_slice(high);
+    later.copy_from_slice(low);
 }
 
 // Joins the codes at distances 1, 2, 4 and so on, while the distance is below their number. `before` is room for as many.
-fn join_all(full: u8, codes: &mut [u8], before: &mut [u8])
-    requires full_value { Rule.is_code 8 full ≡ true }
+fn join_all(picks: Picks, codes: &mut [u8], before: &mut [u8])
     requires codes_len_bound { length codes.old ≤ max_width }
-    requires codes { Codes (ones full) codes.old }
+    requires codes { Codes (ones picks.code) codes.old }
     requires before_len { length before.old ≡ length codes.old }
-    ensures { codes.new ≡ Network.levels (ones full) (Network.distances (length codes.old)) codes.old }
+    ensures { codes.new ≡ Network.levels (ones picks.code) (Network.distances (length codes.old)) codes.old }
 {
+    // a `while`, since the distance doubles
     let mut distance: usize = 1;
     while distance < codes.len() {
-        copy(codes, before);
-        join_at(full, distance, before, codes);
+        before.copy_from_slice(codes);
+        join_at(picks, distance, before, codes);
         distance *= 2;
     }
 }
 
 // Joins the code of each position that is at least `distance` from the first to the code of the position that far before it, as it
 // was `before`.
-fn join_at(full: u8, distance: usize, before: &[u8], codes: &mut [u8])
-    requires full_value { Rule.is_code 8 full ≡ true }
-    requires codes { Codes (ones full) before.now }
+fn join_at(picks: Picks, distance: usize, before: &[u8], codes: &mut [u8])
+    requires codes { Codes (ones picks.code) before.now }
     requires codes_value { codes.old ≡ before.now }
-    ensures { codes.new ≡ Network.joined (ones full) distance before.now }
+    ensures { codes.new ≡ Network.joined (ones picks.code) distance before.now }
 {
-    let mut p = distance;
-    while p < codes.len() {
-        codes[p] = join(full, before[p - distance], codes[p]);
-        p += 1;
+    for p in distance..codes.len() {
+        codes[p] = join(picks, before[p - distance], codes[p]);
     }
 }
 
 // The saturated sum of two codes. The code of a count c is 2^c - 1, so left * right + left + right is the code of both counts
-// together; `full`, the code of the picks, is the most.
-fn join(full: u8, left: u8, right: u8) -> u8
-    requires full_value { Rule.is_code 8 full ≡ true }
-    requires left_value { Rule.is_code (ones full) left ≡ true }
-    requires right_value { Rule.is_code (ones full) right ≡ true }
-    ensures { result ≡ Rule.add (ones full) left right }
+// together; the code of the picks is the most. The sum is below 256 then, so the cast loses nothing.
+#[tactic(auto, using(crate::proofs::Codes::joins))]
+fn join(picks: Picks, left: u8, right: u8) -> u8
+    requires left_value { Rule.is_code (ones picks.code) left ≡ true }
+    requires right_value { Rule.is_code (ones picks.code) right ≡ true }
+    ensures { result ≡ Rule.add (ones picks.code) left right }
 {
-    let sum = (left as u16) * (right as u16) + (left as u16) + (right as u16);
-    if sum < full as u16 {
-        return sum as u8;
-    }
-    full
-}
-
-// Copies bytes to a buffer of the same length.
-fn copy(from: &[u8], to: &mut [u8])
-    requires { length from.now ≡ length to.old }
-    ensures { to.new ≡ from.now }
-{
-    let mut i: usize = 0;
-    while i < to.len() {
-        to[i] = from[i];
-        i += 1;
-    }
+    let sum = u16::from(left) * u16::from(right) + u16::from(left) + u16::from(right);
+    sum.min(u16::from(picks.code)) as u8
 }

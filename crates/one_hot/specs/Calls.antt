@@ -1,21 +1,20 @@
 -- The one-hot image of the head: 01, "Keeping the head", the wire image.
 -- Assumes nothing.
 use Rattle.std.specs.Prelude.{ℕ, List, length, set, replicate}
-use Rattle.rules.specs.declared.Head.{Head}
-use Rattle.rules.specs.declared.Head.TheVariants.{None, At}
+use Rattle.rules.specs.Head.{Head}
+use Rattle.std.specs.Prelude.{None, Some}
 use Rattle.arbiter.specs.declared.Answer.{Answer}
 use Rattle.arbiter.specs.declared.State.{State}
-use Rattle.arbiter.specs.declared.question.Verdict.{Verdict}
 use Rattle.arbiter.specs.Places.{ones, first}
 use Rattle.arbiter.specs.Questions as Questions
-use Rattle.arbiter.specs.Questions.{◌then◌}
+use Rattle.arbiter.specs.Questions.{Verdict, ◌then◌}
 use Rattle.arbiter.specs.Answers.{Outcome, moved, served, refused, if_passed, writes}
 pub mod Laws
 
 -- the image of a head: "N bytes, all 0 for none or a single 1 at the head"
 unfoldable pub image : ℕ → Head → List ℕ
 image n None = replicate n 0
-image n (At h) = set (replicate n 0) h 1
+image n (Some h) = set (replicate n 0) h 1
 
 -- the head of an image
 abbrev pub head_of : List ℕ → Head
@@ -29,7 +28,7 @@ questions n m h bytes =
 -- reading one "takes a state and replaces its head"
 abbrev pub read : State → List ℕ → Answer
 read s bytes =
-    let v = questions s.width s.picks s.head bytes in if_passed v (served 0 (moved s (head_of bytes))) (refused v s)
+    let v = questions s.width s.picks s.head bytes in if_passed v (served 0 (moved s (head_of bytes))) (λ refusal. refused refusal s)
 
 -- writing one "shows the head of a state"
 abbrev pub write : State → List ℕ → Outcome

@@ -1,14 +1,14 @@
 -- The packed scan beside the plain scan: where one is served, so is the other, since packing and unpacking undo each other.
 -- Assumes nothing.
 use Prim.Native.Nat.{ℕ, ◌+◌, ◌*◌, ◌/◌, ◌%◌, ◌≤◌, ◌<◌}
-use mathlib.Core.Path.{◌≡◌, refl, sym, ap, ◌∙◌}
+use mathlib.Core.Path.{◌≡◌, sym, ap, ◌∙◌}
 use mathlib.Core.Bool.{Bool}
 use mathlib.Core.List.{List, [], map}
 use native.Mathlib.Omega.{arith}
 use lib.Dec.{eqb, ltb}
 use lib.ListN.{length, get_or, get_or-eq_default}
 use borrow.Author.Tests.{eq-eqb, ltb-true, ltb-false}
-use Rattle.rules.specs.declared.Head.{Head}
+use Rattle.rules.specs.Head.{Head}
 use Rattle.rules.specs.Lists.{member}
 use Rattle.rules.specs.Lists.Laws as Lists
 use Rattle.rules.specs.Packing.{line, packed_length, pack, unpack}
@@ -21,7 +21,8 @@ use Rattle.arbiter.specs.Cycle as Scan
 use Rattle.arbiter.specs.Places.{Bits, set_lines}
 use Rattle.arbiter.specs.Places.Laws.{Free, places_none}
 use Rattle.arbiter.specs.Questions as Questions
-use Rattle.arbiter.specs.Questions.{◌then◌, refuse_at_first}
+use Rattle.arbiter.specs.declared.refusal.Refusal.TheVariants.{UnusedBit}
+use Rattle.arbiter.specs.Questions.{passed, ◌then◌, refuse_at_first}
 use Rattle.arbiter.specs.Questions.Laws as QuestionLaws
 use Rattle.packed_scan.specs.Calls as PackedScan
 use Rattle.packed_scan.specs.Calls.Laws.{ready}
@@ -46,10 +47,11 @@ served_unpacked s requests former bytes z room =
     let wires = unpack n requests in
     let v = PackedScan.questions n s.picks s.head requests (length former) in
     let p = writes_passed v s (Scan.answer s wires) (pack (Scan.granting s wires)) former z in
-    let r = ready n s.picks s.head requests (length former) refl p in
+    let r = ready n s.picks s.head requests (length former) p in
     let long = Packing.unpack_length n requests in
     let passes =
-    QuestionLaws.lends (Questions.state n s.picks s.head) n wires (length bytes) (QuestionLaws.allows n s.picks s.head r.state.allows) long room (λ i _. Packing.unpack_bit n requests i) in
+    QuestionLaws.then_passed (Questions.state n s.picks s.head) _ (QuestionLaws.allows n s.picks s.head r.state.allows)
+    (QuestionLaws.lends n wires (length bytes) long room (λ i _. Packing.unpack_bit n requests i)) in
     let size = RoundRobin.grants_length n s.picks s.head (Scan.asking s wires) in
     let back : unpack n (pack (Scan.granting s wires)) ≡ Scan.granting s wires =
     ap (λ (k : ℕ). unpack k (pack (Scan.granting s wires))) (sym size)
@@ -80,7 +82,7 @@ packed_unused wires bits =
     places_none free (omega arith)
 
 -- a state that the plain scan allows and that has one pick
-allowed : (n m : ℕ) (h : Head) → QuestionLaws.Allowed n m h → m ≡ 1 → (PackedScan.state n m h).number ≡ 0
+allowed : (n m : ℕ) (h : Head) → QuestionLaws.Allowed n m h → m ≡ 1 → PackedScan.state n m h ≡ passed
 allowed n m h a one =
     QuestionLaws.then_passed _ (Questions.head n h)
     (QuestionLaws.then_passed (Questions.width n) (Questions.one_pick m) (QuestionLaws.width_passes n a.some a.most) (rw (eq-eqb m 1 one)))
@@ -93,20 +95,20 @@ served_packed s wires bytes former z one room =
     let h = s.head in
     let q = Scan.questions s wires (length bytes) in
     let p = writes_passed q s (Scan.answer s wires) (Scan.granting s wires) bytes z in
-    let r = QuestionLaws.ready n m h wires (length bytes) refl p in
+    let r = QuestionLaws.ready n m h wires (length bytes) p in
     let asked : length wires ≡ n = r.lends.asked in
     let size : length (pack wires) ≡ packed_length n = Packing.pack_length wires ∙ ap packed_length asked in
     let unused : set_lines n (pack wires) ≡ [] = ap (λ (k : ℕ). set_lines k (pack wires)) (sym asked) ∙ packed_unused wires r.lends.wires in
     let back : unpack n (pack wires) ≡ wires =
     ap (λ (k : ℕ). unpack k (pack wires)) (sym asked) ∙ Packing.unpack_pack wires (low wires r.lends.wires) in
-    let passes : (PackedScan.questions n m h (pack wires) (length former)).number ≡ 0 =
+    let passes : PackedScan.questions n m h (pack wires) (length former) ≡ passed =
     QuestionLaws.then_passed _ (Questions.unused_bits n (pack wires))
     (QuestionLaws.then_passed _ (Questions.write_length (packed_length n) (length former))
     (QuestionLaws.then_passed (PackedScan.state n m h) (Questions.read_length (packed_length n) (length (pack wires)))
     (allowed n m h r.allows one)
     (rw (eq-eqb (length (pack wires)) (packed_length n) size)))
     (rw (eq-eqb (length former) (packed_length n) room)))
-    (ap (λ (ls : List ℕ). (refuse_at_first 14 (map (λ i. i / 8) ls)).number) unused) in
+    (ap (λ (ls : List ℕ). refuse_at_first UnusedBit (map (λ i. i / 8) ls)) unused) in
     let target = unpack n (pack wires) in
     writes_is (PackedScan.questions n m h (pack wires) (length former)) s (Scan.answer s target) (pack (Scan.granting s target)) former passes
     ∙ ap (λ (w : List ℕ). record { answer = Scan.answer s w; written = pack (Scan.granting s w) }) back

@@ -1,13 +1,12 @@
 -- The packed scan's calls with any input: 02, N2.
 -- Assumes nothing.
 use Rattle.std.specs.Prelude.{ℕ, List, length}
-use Rattle.rules.specs.declared.Head.{Head}
+use Rattle.rules.specs.Head.{Head}
 use Rattle.rules.specs.Packing.{packed_length, pack, unpack}
 use Rattle.arbiter.specs.declared.Answer.{Answer}
 use Rattle.arbiter.specs.declared.State.{State}
-use Rattle.arbiter.specs.declared.question.Verdict.{Verdict}
 use Rattle.arbiter.specs.Questions as Questions
-use Rattle.arbiter.specs.Questions.{◌then◌}
+use Rattle.arbiter.specs.Questions.{Verdict, ◌then◌}
 use Rattle.arbiter.specs.Answers.{Outcome, opened, writes}
 use Rattle.arbiter.specs.Cycle.{answer, granting}
 pub mod Laws

@@ -6,39 +6,45 @@ mod lines;
 mod question;
 mod table;
 
-ghost use Rattle.std.specs.Prelude.{◌++◌, ◌≡◌, ◌*◌, ◌≤◌, ◌<◌, length, replicate};
+ghost use Rattle.std.specs.Prelude.{◌++◌, ◌≡◌, ◌*◌, ◌≤◌, ◌<◌, length, replicate, Ok};
 ghost use Rattle.rules.specs.Packing.{packed_length, pack, unpack};
 ghost use Rattle.rules.specs.RoundRobin as RoundRobin;
 ghost use Rattle.rules.specs.RoundRobin.{start};
+ghost use Rattle.arbiter.specs.Answers as Answers;
 ghost use Rattle.arbiter.specs.Decisions.{requested, decision};
 ghost use Rattle.arbiter.specs.Places as Places;
 ghost use Rattle.arbiter.specs.Questions as Questions;
+ghost use Rattle.arbiter.specs.Questions.{◌then◌};
 ghost use Rattle.packed_scan.specs.Calls as Calls;
 ghost use Rattle.packed_scan.specs.Lines.{Packed};
 
+use arbiter::engine::Arbiter;
+use arbiter::question::Verdict;
+use arbiter::refusal::Refusal;
 use arbiter::search::highest;
-use arbiter::{Answer, Decision, State, clear, decide, first_station, idle, refusal};
+use arbiter::{Answer, Decision, State, decide, first_station, idle};
 use rules::Head;
 
 // A state that the packed scan serves.
 #[derive(Clone, Copy)]
 pub struct PackedScan(pub State);
 
+impl Arbiter for PackedScan {
+    ghost questions = { Calls.state };
+
+    ghost state_of = { λ scan. scan.0 };
+
+    // Asks 1, 3 and 4; two picks are refused by 3.
+    fn ask(width: usize, picks: usize, head: Head) -> Verdict {
+        question::state(width, picks, head)
+    }
+
+    fn state(self) -> State {
+        self.0
+    }
+}
+
 impl PackedScan {
-    // Opens with no head. Asks 1, 3 and 4: a width of 1,025 is refused by 1, two picks by 3.
-    pub fn open(width: usize, picks: usize) -> Answer
-        ensures { result ≡ Calls.opening width picks Head.None }
-    {
-        opening(width, picks, Head::None)
-    }
-
-    // Opens with a head. Asks 1, 3 and 4: of 4 stations, head 4 is refused by 4.
-    pub fn open_at(width: usize, picks: usize, head: usize) -> Answer
-        ensures { result ≡ Calls.opening width picks (Head.At head) }
-    {
-        opening(width, picks, Head::At(head))
-    }
-
     // One cycle: writes the grant of these requests, both packed, and answers with the count of grants and the next state. Asks 1,
     // 3, 4, 5, 6 and 14. With 11 stations, head 8 and stations 0 and 3 asking, requests 9 0, it grants 0, grants 1 0, and the next
     // head is 1.
@@ -47,27 +53,30 @@ impl PackedScan {
         ensures grants_after { grants.new ≡ (Calls.cycle self.0 requests.now grants.old).written }
     {
         let s = self.0;
-        let head = s.head;
-        let verdict = question::cycle(s.width, s.picks, head, requests, grants.len());
-        if verdict.number != refusal::SERVED {
-            return s.refused(verdict);
-        }
-        clear(grants);
-        let decision = grant(s.width, head, requests, grants);
-        let next = decision.next;
-        s.served(decision.count, next)
+        let decided = arbitrate(s.width, s.picks, s.head, requests, grants);
+        s.answer(decided)
     }
 }
 
-// Makes a state of these. Asks 1, 3 and 4.
-fn opening(width: usize, picks: usize, head: Head) -> Answer
-    ensures { result ≡ Calls.opening width picks head }
+// The questions of a cycle, and what it decides where they pass.
+#[tactic(auto, using(crate::specs::Calls::Laws::ready))]
+fn arbitrate(
+    width: usize,
+    picks: usize,
+    head: Head,
+    requests: &[u8],
+    grants: &mut [u8],
+) -> Result<Decision, Refusal>
+    ensures value { result ≡ (Calls.questions width picks head requests.now (length grants.old) then Ok (decision width picks head (requested (unpack width requests.now)))) }
+    ensures grants_after { grants.new ≡ Answers.if_passed (Calls.questions width picks head requests.now (length grants.old)) (pack (RoundRobin.grants width picks head (requested (unpack width requests.now)))) (λ _. grants.old) }
 {
-    let verdict = question::state(width, picks, head);
-    Answer::opened(verdict, width, picks, head)
+    question::cycle(width, picks, head, requests, grants.len())?;
+    grants.fill(0);
+    Ok(grant(width, head, requests, grants))
 }
 
 // A cycle that no question refuses, with a grant buffer that is all 0.
+#[tactic(auto, using(crate::specs::Lines::Laws::none_decides, crate::specs::Lines::Laws::none_grants, crate::specs::Lines::Laws::one_below, crate::specs::Lines::Laws::one_decides, crate::specs::Lines::Laws::one_grants))]
 fn grant(width: usize, head: Head, requests: &[u8], grants: &mut [u8]) -> Decision
     requires head_bound { start head < width }
     requires packed { Packed width requests.now }
@@ -76,33 +85,29 @@ fn grant(width: usize, head: Head, requests: &[u8], grants: &mut [u8]) -> Decisi
     ensures grants_after { grants.new ≡ pack (RoundRobin.grants width 1 head (requested (unpack width requests.now))) }
 {
     let first = first_station(head);
-    let found = first_request(first, requests);
-    let Head::At(station) = found else {
+    let Some(station) = first_request(first, requests) else {
         return idle(width, head);
     };
-    let byte = station / 8;
-    grants[byte] = lines::single(station % 8);
+    grants[station / 8] = lines::single(station % 8);
     decide(width, head, 1, station)
 }
 
 // The first station that asks from `first` on and then round, or none. In the byte of `first` it looks from that line on. Where none
 // of these asks, nor any station at all, there is none; else it looks at the next byte that is not 0, the byte of `first` last.
-fn first_request(first: usize, requests: &[u8]) -> Head
+#[tactic(auto, using(crate::specs::Lines::Laws::round_quiet, crate::specs::Lines::Laws::highest_zero, crate::specs::Lines::Laws::next_none))]
+fn first_request(first: usize, requests: &[u8]) -> Option<usize>
     requires first_bound { first < 8 * length requests.now }
     requires requests_len_bound { length requests.now ≤ Questions.max_width }
     ensures { result ≡ Places.first (Places.set_lines first requests.now ++ Places.set_lines 0 requests.now) }
 {
     let home = first / 8;
-    let line = lines::entry(requests[home], first % 8);
-    if line < 8 {
-        return Head::At(8 * home + line);
+    if let Some(line) = lines::first_line(requests[home], first % 8) {
+        return Some(8 * home + line);
     }
     if highest(requests) == 0 {
-        return Head::None;
+        return None;
     }
-    let found = lines::next_byte(home, requests);
-    let Head::At(byte) = found else {
-        return Head::None;
-    };
-    Head::At(8 * byte + lines::entry(requests[byte], 0))
+    let byte = lines::next_byte(home, requests)?;
+    let line = lines::first_line(requests[byte], 0)?;
+    Some(8 * byte + line)
 }

@@ -4,45 +4,41 @@ ghost use Rattle.rules.specs.Packing.{packed_length};
 ghost use Rattle.arbiter.specs.Questions as Questions;
 ghost use Rattle.packed_scan.specs.Calls as Calls;
 
-use crate::lines::entry;
-use arbiter::question::Verdict;
-use arbiter::{question, refusal};
+use crate::lines::first_line;
+use arbiter::question::{self, Verdict};
+use arbiter::refusal::Refusal;
 use rules::Head;
 
 // How many bytes the wires of so many stations take: eight to a byte, rounded up.
 fn packed_length(width: usize) -> usize
     ensures { result ≡ packed_length width }
 {
-    if width % 8 == 0 {
-        return width / 8;
-    }
-    width / 8 + 1
+    width.div_ceil(8)
 }
 
 // Questions 1, 3 and 4.
 pub(crate) fn state(width: usize, picks: usize, head: Head) -> Verdict
     ensures { result ≡ Calls.state width picks head }
 {
-    let by_width = question::width(width);
-    let by_picks = question::one_pick(picks);
-    let by_head = question::head(width, head);
-    by_width.then(by_picks).then(by_head)
+    question::width(width)?;
+    question::one_pick(picks)?;
+    question::head(width, head)
 }
 
 // Question 14: is no bit set that is no station's? Only the last byte can have one; the place of a refusal is that of the byte.
+#[tactic(auto, using(crate::specs::Calls::Laws::unused_none, crate::specs::Lines::Laws::listed_none, crate::specs::Lines::Laws::set_past, crate::specs::Lines::Laws::set_none))]
 fn unused_bits(width: usize, requests: &[u8]) -> Verdict
     requires { length requests.now ≡ packed_length width }
     ensures { result ≡ Questions.unused_bits width requests.now }
 {
     let last = width / 8;
-    if last == requests.len() {
-        return question::refuse_unless(true, refusal::UNUSED_BIT, 0);
+    let Some(byte) = requests.get(last) else {
+        return Ok(());
+    };
+    match first_line(*byte, width % 8) {
+        None => Ok(()),
+        Some(_) => Err(Refusal::UnusedBit(last)),
     }
-    let line = entry(requests[last], width % 8);
-    if line < 8 {
-        return question::refuse_unless(false, refusal::UNUSED_BIT, last);
-    }
-    question::refuse_unless(true, refusal::UNUSED_BIT, 0)
 }
 
 // Questions 1, 3, 4, 5, 6 and 14 of a cycle whose grant buffer has `length` bytes.
@@ -55,13 +51,9 @@ pub(crate) fn cycle(
 ) -> Verdict
     ensures { result ≡ Calls.questions width picks head requests.now length }
 {
+    state(width, picks, head)?;
     let stated = packed_length(width);
-    let by_state = state(width, picks, head);
-    let by_requests = question::read_length(stated, requests.len());
-    let by_grants = question::write_length(stated, length);
-    let unread = by_state.then(by_requests).then(by_grants);
-    if unread.number != refusal::SERVED {
-        return unread;
-    }
+    question::read_length(stated, requests.len())?;
+    question::write_length(stated, length)?;
     unused_bits(width, requests)
 }

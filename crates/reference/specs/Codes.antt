@@ -1,7 +1,7 @@
 -- Thermometer codes by counting.
 -- Assumes nothing.
-use Rattle.std.specs.Prelude.{ℕ, ◌+◌, Bool, cond, ◌&&◌, [], ◌∷◌, leb, eqb, get_or}
-use Rattle.reference.specs.Count.{tally, lesser}
+use Rattle.std.specs.Prelude.{ℕ, ◌+◌, Bool, cond, min, ◌&&◌, [], ◌∷◌, leb, eqb, get_or}
+use Rattle.reference.specs.Count.{tally}
 pub mod Laws
 
 -- the code of a count, for 0 to 8: 0 for any other
@@ -26,4 +26,4 @@ is_code m byte = allowed m && eqb (code (counted m byte)) byte
 
 -- the saturated sum of two codes for m picks: 0 where one is none
 unfoldable pub sum : ℕ → ℕ → ℕ → ℕ
-sum m left right = cond (is_code m left && is_code m right) (code (lesser m (counted m left + counted m right))) 0
+sum m left right = cond (is_code m left && is_code m right) (code (min m (counted m left + counted m right))) 0

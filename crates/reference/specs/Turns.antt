@@ -1,8 +1,8 @@
 -- The rules by each station's distance from the start and by counting: whom a cycle grants, the next head, the next token and a
 -- tree node's value.
 -- Assumes nothing.
-use Rattle.std.specs.Prelude.{ℕ, ◌+◌, ◌-◌, Bool, cond, ◌&&◌, List, ltb, leb, eqb, get_or}
-use Rattle.reference.specs.Count.{tally, greatest, lesser}
+use Rattle.std.specs.Prelude.{ℕ, ◌+◌, ◌-◌, Bool, cond, min, ◌&&◌, List, Option, Some, None, unwrap_or, ltb, leb, eqb, get_or}
+use Rattle.reference.specs.Count.{tally, greatest}
 pub mod Laws
 
 -- the station asks: its byte is 1
@@ -31,11 +31,11 @@ granted n m start requests w = ltb start n && ltb w n && asks requests w && ltb 
 
 -- a station's count: how many are before it, or the picks if these are fewer
 unfoldable pub ahead : ℕ → ℕ → ℕ → List ℕ → ℕ → ℕ
-ahead n m start requests w = lesser m (nearer n start requests w)
+ahead n m start requests w = min m (nearer n start requests w)
 
 -- how many are granted: the picks, or all that ask if these are fewer
 unfoldable pub count : ℕ → ℕ → List ℕ → ℕ
-count n m requests = lesser m (tally (asks requests) 0 n)
+count n m requests = min m (tally (asks requests) 0 n)
 
 -- how far a grant to w reaches: one past it, or 0 where w is not granted
 unfoldable pub extent : ℕ → ℕ → ℕ → List ℕ → ℕ → ℕ
@@ -45,25 +45,21 @@ extent n m start requests w = cond (granted n m start requests w) (distance n st
 unfoldable pub reach : ℕ → ℕ → ℕ → List ℕ → ℕ
 reach n m start requests = greatest (extent n m start requests) n
 
--- where a cycle that grants no one leaves the head
-unfoldable pub idle : ℕ → Bool → ℕ → ℕ
-idle n headed head = cond headed head (n - 1)
+-- where a cycle that grants no one leaves the head: where it was, or at the last station
+unfoldable pub idle : ℕ → Option ℕ → ℕ
+idle n head = unwrap_or head (n - 1)
 
 -- the next head: as far from the start as the grants reach, or the idle one
-unfoldable pub next : ℕ → ℕ → Bool → ℕ → List ℕ → ℕ
-next n m headed head requests =
-    cond (eqb (reach n m (cond headed head 0) requests) 0)
-    (idle n headed head)
-    (away n (cond headed head 0) (reach n m (cond headed head 0) requests))
+unfoldable pub next : ℕ → ℕ → Option ℕ → List ℕ → ℕ
+next n m head requests =
+    cond (eqb (reach n m (unwrap_or head 0) requests) 0)
+    (idle n head)
+    (away n (unwrap_or head 0) (reach n m (unwrap_or head 0) requests))
 
 -- the next token: one past the token where someone asks and it is acknowledged
 unfoldable pub next_token : ℕ → ℕ → List ℕ → Bool → ℕ
 next_token n token requests acknowledged =
     cond (ltb 0 (tally (asks requests) 0 n) && acknowledged) (away n token 1) token
-
--- the head is one of the stations from a up to b
-unfoldable pub inside : Bool → ℕ → ℕ → ℕ → Bool
-inside headed head a b = headed && leb a head && ltb head b
 
 -- a count as a bit: 1 if it is not 0
 unfoldable pub some : ℕ → ℕ
@@ -71,8 +67,9 @@ some k = cond (eqb k 0) 0 1
 
 -- the value of a tree node over the stations from a up to b (000, Table 1): 2 if the head is among them, and 1 if some station
 -- among them asks, where those before the head do not count if it is among them
-unfoldable pub node : Bool → ℕ → List ℕ → ℕ → ℕ → ℕ
-node headed head requests a b =
-    cond (inside headed head a b)
+unfoldable pub node : Option ℕ → List ℕ → ℕ → ℕ → ℕ
+node None requests a b = some (tally (asks requests) a (b - a))
+node (Some head) requests a b =
+    cond (leb a head && ltb head b)
     (2 + some (tally (asks requests) head (b - head)))
     (some (tally (asks requests) a (b - a)))

@@ -1,16 +1,16 @@
 -- The token bus's rule: 01, "The token bus". t is the token, a station number.
 -- Assumes nothing.
 use Rattle.std.specs.Prelude.{ℕ, ◌+◌, ◌%◌, Bool, true, false, List, [], ◌∷◌, eqb}
-use Rattle.rules.specs.declared.Head.TheVariants.{At}
+use Rattle.std.specs.Prelude.{Some}
 use Rattle.rules.specs.RoundRobin as RoundRobin
 
 -- who is granted: the first that asks in turn order "from the token, with one pick"
 unfoldable pub granted : ℕ → ℕ → (ℕ → Bool) → List ℕ
-granted n t asks = RoundRobin.granted n 1 (At t) asks
+granted n t asks = RoundRobin.granted n 1 (Some t) asks
 
 -- the grant buffer
 unfoldable pub grants : ℕ → ℕ → (ℕ → Bool) → List ℕ
-grants n t asks = RoundRobin.grants n 1 (At t) asks
+grants n t asks = RoundRobin.grants n 1 (Some t) asks
 
 -- an acknowledge byte that acknowledges: "acknowledge is 1"
 abbrev pub acknowledged : ℕ → Bool

@@ -2,7 +2,7 @@
 -- the first station's. It is shut like the round-robin rule: the engine goes by Laws.
 -- Assumes nothing.
 use Rattle.std.specs.Prelude.{ℕ, ◌-◌, ◌^◌, Bool, cond, List, [], ◌∷◌, map, ltb, length, get_or}
-use Rattle.rules.specs.declared.Head.{Head}
+use Rattle.rules.specs.Head.{Head}
 use Rattle.rules.specs.Lists.{range, filter, before}
 use Rattle.rules.specs.RoundRobin.{order}
 use Rattle.rules.specs.Thermometer.{add, inputs}

@@ -1,3 +1,4 @@
+pub mod Head
 pub mod Lists
 pub mod RoundRobin
 pub mod Walk

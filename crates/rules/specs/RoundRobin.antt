@@ -2,8 +2,8 @@
 -- n is the width, 01's N; m is the pick count; h is the head; `asks w` says that station w asks.
 -- Assumes nothing.
 use Rattle.std.specs.Prelude.{ℕ, ◌+◌, ◌-◌, ◌%◌, Bool, List, [], ◌∷◌, ◌++◌, take}
-use Rattle.rules.specs.declared.Head.{Head}
-use Rattle.rules.specs.declared.Head.TheVariants.{None, At}
+use Rattle.rules.specs.Head.{Head}
+use Rattle.std.specs.Prelude.{None, Some}
 use Rattle.rules.specs.Lists.{range, filter, marks, last}
 pub mod Laws
 pub mod Known
@@ -12,7 +12,7 @@ pub mod Trees
 -- the station that comes first: the head, or 0 where there is none
 pub start : Head → ℕ
 start None = 0
-start (At h) = h
+start (Some h) = h
 
 -- 01's turn order: up from the first station to the last, then from 0 up to the first
 pub order : ℕ → Head → List ℕ
@@ -29,9 +29,9 @@ grants n m h asks = marks n (granted n m h asks)
 -- 01's next head once these are granted: "one past the one granted last in turn order"; if nobody is, a head stays and none
 -- becomes n - 1
 pub after : ℕ → Head → List ℕ → Head
-after n h (g ∷ gs) = At ((last g gs + 1) % n)
-after n (At h) [] = At h
-after n None [] = At (n - 1)
+after n h (g ∷ gs) = Some ((last g gs + 1) % n)
+after n (Some h) [] = Some h
+after n None [] = Some (n - 1)
 
 -- 01's next head
 pub next : ℕ → ℕ → Head → (ℕ → Bool) → Head

@@ -2,7 +2,7 @@
 -- Assumes nothing.
 use Rattle.std.specs.Prelude.{ℕ, ◌+◌, ◌-◌, ◌^◌, min, Bool, ◌&&◌, List, [], ◌∷◌, map, ltb, leb, eqb}
 use Rattle.std.specs.Int.Count.{ones}
-use Rattle.rules.specs.declared.Head.{Head}
+use Rattle.rules.specs.Head.{Head}
 use Rattle.rules.specs.Lists.{bit, range, count, before}
 use Rattle.rules.specs.RoundRobin.{order}
 pub mod Running

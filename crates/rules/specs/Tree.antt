@@ -1,8 +1,8 @@
 -- The tree's rule: 01, "The tree".
 -- Assumes nothing.
 use Rattle.std.specs.Prelude.{ℕ, zero, suc, ◌+◌, ◌-◌, ◌*◌, ◌/◌, ◌%◌, Bool, false, cond, not, ◌&&◌, ◌||◌, List, [], ◌∷◌, map, ltb, eqb, get_or}
-use Rattle.rules.specs.declared.Head.{Head}
-use Rattle.rules.specs.declared.Head.TheVariants.{None, At}
+use Rattle.rules.specs.Head.{Head}
+use Rattle.std.specs.Prelude.{None, Some}
 use Rattle.rules.specs.Lists.{bit, range, marks}
 
 -- a node's value, of its two bits S1 and S0
@@ -20,7 +20,7 @@ s0 v = eqb (v % 2) 1
 -- the head is at station i
 unfoldable pub head_at : Head → ℕ → Bool
 head_at None i = false
-head_at (At h) i = eqb h i
+head_at (Some h) i = eqb h i
 
 -- a station's value: S1 for the head, S0 for its request (000, Table 1)
 unfoldable pub leaf : Head → (ℕ → Bool) → ℕ → ℕ

@@ -1,8 +1,4 @@
 #![tactic(auto)]
 
 // Where the priority order starts: 01's head, a station number or none. On the bus it is the token.
-#[derive(Clone, Copy)]
-pub enum Head {
-    None,
-    At(usize),
-}
+pub type Head = Option<usize>;

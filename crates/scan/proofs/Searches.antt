@@ -8,7 +8,7 @@ use native.Mathlib.Omega.{arith}
 use lib.Dec.{eqb}
 use lib.ListN.{length, take}
 use lib.Seq.{length-take-le, get_or-take}
-use Rattle.rules.specs.declared.Head.TheVariants.{None, At}
+use Rattle.std.specs.Prelude.{None, Some}
 use Rattle.arbiter.specs.Decisions.{requested}
 use Rattle.arbiter.specs.Places.{ones, first}
 use Rattle.arbiter.specs.Places.Laws as Places
@@ -28,7 +28,7 @@ module _ (requests : List ℕ) (from to : ℕ) (room : to ≤ length requests) w
     pub asks : requested requests w ≡ true
     pub earlier : (k : ℕ) → from ≤ k → k < w → requested requests k ≡ false
 
-  pub found : (w : ℕ) → first (ones from (take to requests)) ≡ At w → Found w
+  pub found : (w : ℕ) → first (ones from (take to requests)) ≡ Some w → Found w
   found w e =
       let r = Places.found (λ b. eqb b 1) from w (take to requests) e in
       let high : w < to = omega (arith, r.high, long) in

@@ -8,18 +8,17 @@ use native.Mathlib.Omega.{arith}
 use lib.Dec.{eqb, ltb}
 use lib.ListN.{length, get_or}
 use borrow.Author.Tests.{eqb-true, eqb-false, ltb-false}
-use Rattle.rules.specs.declared.Head.{Head}
-use Rattle.rules.specs.declared.Head.TheVariants.{None, At}
+use Rattle.rules.specs.Head.{Head}
+use Rattle.std.specs.Prelude.{None, Some, Ok, Err}
 use Rattle.rules.specs.Lists.Laws as Lists
 use Rattle.arbiter.specs.declared.Answer.{Answer}
 use Rattle.arbiter.specs.declared.State.{State}
-use Rattle.arbiter.specs.declared.question.Verdict.{Verdict}
-use Rattle.arbiter.specs.Words.{number}
+use Rattle.arbiter.specs.Words as Words
 use Rattle.arbiter.specs.Places.Laws.{Free, free_of}
 use Rattle.arbiter.specs.Questions as Questions
-use Rattle.arbiter.specs.Questions.{◌then◌}
+use Rattle.arbiter.specs.Questions.{Verdict, passed, ◌then◌}
 use Rattle.arbiter.specs.Questions.Laws as Asked
-use Rattle.arbiter.specs.Answers.{made, served, opened, if_passed}
+use Rattle.arbiter.specs.Answers.{made, number, number_of, served, opened}
 use Rattle.arbiter.specs.Answers.Laws as Answers
 use Rattle.snapshot.specs.declared.Fields.{Fields}
 use Rattle.snapshot.specs.Calls as Snapshot
@@ -36,11 +35,11 @@ record Holds (n m : ℕ) (h : Head) (bytes : List ℕ) : Type 0 where
   pub width : (fields bytes).width ≡ n
   pub picks : (fields bytes).picks ≡ m
   pub head : head_of (fields bytes) ≡ h
-  pub clean : (no_stray (fields bytes)).number ≡ 0
-  pub mark : (Questions.bits (length bytes - 1) bytes).number ≡ 0
+  pub clean : no_stray (fields bytes) ≡ passed
+  pub mark : Questions.bits (length bytes - 1) bytes ≡ passed
   pub long : length bytes ≡ Snapshot.size
 
-two_bytes_lem : (x : ℕ) → number (Snapshot.two_bytes x) ≡ x
+two_bytes_lem : (x : ℕ) → Words.number (Snapshot.two_bytes x) ≡ x
 two_bytes_lem x = omega arith
 
 holds : (n m : ℕ) (h : Head) → 1 ≤ n → Holds n m h (saved (made n m h))
@@ -54,11 +53,11 @@ holds n m None l =
       mark = refl;
       long = refl;
     }
-holds n m (At h) l =
+holds n m (Some h) l =
     record {
       width = omega (arith, two_bytes_lem (n - 1));
       picks = refl;
-      head = ap (λ (x : ℕ). At x) (two_bytes_lem h);
+      head = ap (λ (x : ℕ). Some x) (two_bytes_lem h);
       clean = refl;
       mark = refl;
       long = refl;
@@ -70,21 +69,21 @@ read_saved s a =
     let bytes = saved s in
     let k = holds s.width s.picks s.head a.some in
     let f = fields bytes in
-    let five : (Snapshot.read_length (length bytes)).number ≡ 0 = rw k.long in
-    let state : (Questions.state f.width f.picks (head_of f)).number ≡ 0 =
+    let five : Snapshot.read_length (length bytes) ≡ passed = rw k.long in
+    let state : Questions.state f.width f.picks (head_of f) ≡ passed =
     rw (k.width, k.picks, k.head) (Asked.allows s.width s.picks s.head a) in
     let rest = Asked.then_passed (Questions.bits (length bytes - 1) bytes) (allowed f) k.mark (Asked.then_passed _ (no_stray f) state k.clean) in
-    let passes : (questions bytes).number ≡ 0 =
+    let passes : questions bytes ≡ passed =
     Asked.then_passed (Snapshot.read_length (length bytes)) _ five
-    (ap (λ (v : Verdict). v.number) (sym (Saved.asked bytes (omega arith) five)) ∙ rest) in
+    (sym (Saved.asked bytes (omega arith) five) ∙ rest) in
     let same : served 0 (made f.width f.picks (head_of f)) ≡ served 0 s = rw (k.width, k.picks, k.head) in
     Answers.passed_is (questions bytes) _ _ passes ∙ same
 
 pub snapshot_read_back : SnapshotReadBack
 snapshot_read_back s former z =
     let v = Questions.write s.width s.picks s.head Snapshot.size (length former) in
-    let passes : v.number ≡ 0 = Answers.writes_passed v s (served 0 s) (saved s) former z in
-    let a = (Asked.writable s.width s.picks s.head Snapshot.size (length former) refl passes).allows in
+    let passes : v ≡ passed = Answers.writes_passed v s (served 0 s) (saved s) former z in
+    let a = (Asked.writable s.width s.picks s.head Snapshot.size (length former) passes).allows in
     ap (λ o. Snapshot.read o.written) (Answers.writes_is v s (served 0 s) (saved s) former passes) ∙ read_saved s a
 
 -- what is known of a snapshot that is served
@@ -94,22 +93,21 @@ record Served (bytes : List ℕ) : Type 0 where
   pub clean : (eqb (fields bytes).mark 1 || eqb (fields bytes).station 0) ≡ true
   pub mark : get_or bytes (length bytes - 1) 0 ≤ 1
 
-serves : (bytes : List ℕ) → ((i : ℕ) → get_or bytes i 0 < 256) → 1 ≤ length bytes → (Snapshot.read bytes).number ≡ 0 → Served bytes
+serves : (bytes : List ℕ) → ((i : ℕ) → get_or bytes i 0 < 256) → 1 ≤ length bytes → number (Snapshot.read bytes) ≡ 0 → Served bytes
 serves bytes byte some z =
     let f = fields bytes in
     let v = questions bytes in
     let last = length bytes - 1 in
-    let passes : v.number ≡ 0 = Answers.opened_passed v f.width f.picks (head_of f) z in
+    let passes : v ≡ passed = Answers.opened_passed v f.width f.picks (head_of f) z in
     let five = Asked.then_served (Snapshot.read_length (length bytes)) _ passes in
-    let rest : (Questions.bits last bytes then allowed f).number ≡ 0 =
-    ap (λ (v : Verdict). v.number) (Saved.asked bytes (byte 0) five.0) ∙ five.1 in
+    let rest : (Questions.bits last bytes then allowed f) ≡ passed = Saved.asked bytes (byte 0) five.0 ∙ five.1 in
     let eight = Asked.then_served (Questions.bits last bytes) (allowed f) rest in
     let four = Asked.then_served (Questions.state f.width f.picks (head_of f)) (no_stray f) eight.1 in
-    let free : Free (ltb 1) last (length bytes) bytes = free_of (Asked.first_served 7 _ eight.0) in
+    let free : Free (ltb 1) last (length bytes) bytes = free_of (Asked.first_served _ _ eight.0) in
     record {
       read = Answers.passed_is v _ _ passes;
       allows = Asked.allowed f.width f.picks (head_of f) four.0;
-      clean = Asked.unless_served _ 3 0 four.1;
+      clean = Asked.unless_served _ _ four.1;
       mark = ltb-false 1 (get_or bytes last 0) (free.at last (omega arith) (omega arith));
     }
 
@@ -125,10 +123,10 @@ saved_marked x m y g low clean =
     let none : y ≡ 0 = eqb-true y 0 (rw n at clean) in
     rw (n, back, zero, none))
 
-low_byte : (x y : ℕ) → x < 256 → number (x ∷ y ∷ []) % 256 ≡ x
+low_byte : (x y : ℕ) → x < 256 → Words.number (x ∷ y ∷ []) % 256 ≡ x
 low_byte x y l = omega arith
 
-high_byte : (x y : ℕ) → x < 256 → number (x ∷ y ∷ []) / 256 ≡ y
+high_byte : (x y : ℕ) → x < 256 → Words.number (x ∷ y ∷ []) / 256 ≡ y
 high_byte x y l = omega arith
 
 abbrev byte_at : List ℕ → ℕ → ℕ
@@ -139,8 +137,8 @@ saved_held : (bytes : List ℕ) → ((i : ℕ) → get_or bytes i 0 < 256) → l
     (eqb f.mark 1 || eqb f.station 0) ≡ true → saved (made f.width f.picks (head_of f)) ≡ bytes
 unfolding Snapshot.long_fields
 saved_held bytes byte e low clean =
-    let x = number (byte_at bytes 0 ∷ byte_at bytes 1 ∷ []) in
-    let y = number (byte_at bytes 3 ∷ byte_at bytes 4 ∷ []) in
+    let x = Words.number (byte_at bytes 0 ∷ byte_at bytes 1 ∷ []) in
+    let y = Words.number (byte_at bytes 3 ∷ byte_at bytes 4 ∷ []) in
     let same : (x % 256 ∷ x / 256 ∷ byte_at bytes 2 ∷ y % 256 ∷ y / 256 ∷ byte_at bytes 5 ∷ []) ≡ (byte_at bytes 0 ∷ byte_at bytes 1 ∷ byte_at bytes 2 ∷ byte_at bytes 3 ∷ byte_at bytes 4 ∷ byte_at bytes 5 ∷ []) =
     rw (low_byte (byte_at bytes 0) (byte_at bytes 1) (byte 0), high_byte (byte_at bytes 0) (byte_at bytes 1) (byte 0), low_byte (byte_at bytes 3) (byte_at bytes 4) (byte 3), high_byte (byte_at bytes 3) (byte_at bytes 4) (byte 3)) in
     saved_marked x (byte_at bytes 2) y (byte_at bytes 5) low clean ∙ same ∙ sym (Saved.six bytes e)
@@ -167,14 +165,18 @@ short_read_alike bytes byte short z =
     ∙ sym k.read
 
 -- two calls whose questions say the same number answer with the same number and the same state
-opened_alike : (v w : Verdict) (n m : ℕ) (h : Head) → v.number ≡ w.number
-    → ((opened v n m h).number ≡ (opened w n m h).number) × ((opened v n m h).state ≡ (opened w n m h).state)
-unfolding if_passed
-opened_alike v w n m h e = Lists.split (eqb w.number 0) (λ t. rw (e, t) (refl, refl)) (λ f. rw (e, f) (refl, refl))
+opened_alike : (v w : Verdict) (n m : ℕ) (h : Head) → number_of v ≡ number_of w
+    → (number (opened v n m h) ≡ number (opened w n m h)) × ((opened v n m h).state ≡ (opened w n m h).state)
+opened_alike (Ok _) (Ok _) n m h e = (refl, refl)
+opened_alike (Ok _) (Err r) n m h e = absurd (Answers.refusal_number r (sym e))
+opened_alike (Err r) (Ok _) n m h e = absurd (Answers.refusal_number r e)
+opened_alike (Err q) (Err r) n m h e = (e, refl)
 
-then_alike : (v w q : Verdict) → v.number ≡ w.number → (v then q).number ≡ (w then q).number
-unfolding ◌then◌
-then_alike v w q e = Lists.split (eqb w.number 0) (λ t. rw (e, t)) (λ f. rw (e, f))
+then_alike : (v w q : Verdict) → number_of v ≡ number_of w → number_of (v then q) ≡ number_of (w then q)
+then_alike (Ok _) (Ok _) q e = refl
+then_alike (Ok _) (Err r) q e = absurd (Answers.refusal_number r (sym e))
+then_alike (Err r) (Ok _) q e = absurd (Answers.refusal_number r e)
+then_alike (Err p) (Err r) q e = e
 
 module _ (a b c d : ℕ) where
   abbrev short : List ℕ
@@ -186,28 +188,27 @@ module _ (a b c d : ℕ) where
   same_fields : fields short ≡ fields long
   unfolding fields Snapshot.short_fields Snapshot.long_fields
   same_fields =
-      let wide : number (a ∷ 0 ∷ []) ≡ a = omega arith in
-      let far : number (c ∷ 0 ∷ []) ≡ c = omega arith in
+      let wide : Words.number (a ∷ 0 ∷ []) ≡ a = omega arith in
+      let far : Words.number (c ∷ 0 ∷ []) ≡ c = omega arith in
       rw (wide, far)
 
-  same_mark : (Questions.bits 3 short).number ≡ (Questions.bits 5 long).number
+  same_mark : number_of (Questions.bits 3 short) ≡ number_of (Questions.bits 5 long)
   same_mark = Lists.split (ltb 1 d) (λ t. rw t) (λ f. rw f)
 
   module _ (l : a < 256) where
     -- the questions of either, by the fields of the long one
     short_asked : questions short ≡ (Questions.bits 3 short then allowed (fields long))
-    unfolding ◌then◌
     short_asked = sym (Saved.asked short l refl) ∙ ap (λ (f : Fields). Questions.bits 3 short then allowed f) same_fields
 
     long_asked : questions long ≡ (Questions.bits 5 long then allowed (fields long))
-    unfolding ◌then◌ fields
+    unfolding fields
     long_asked = refl
 
 pub short_lengthened : ShortLengthened
 short_lengthened a b c d l =
     let f = fields (long a b c d) in
-    let alike : (questions (short a b c d)).number ≡ (questions (long a b c d)).number =
-    ap (λ (v : Verdict). v.number) (short_asked a b c d l)
+    let alike : number_of (questions (short a b c d)) ≡ number_of (questions (long a b c d)) =
+    ap (λ (v : Verdict). number_of v) (short_asked a b c d l)
     ∙ then_alike (Questions.bits 3 (short a b c d)) (Questions.bits 5 (long a b c d)) (allowed f) (same_mark a b c d)
-    ∙ ap (λ (v : Verdict). v.number) (sym (long_asked a b c d l)) in
+    ∙ ap (λ (v : Verdict). number_of v) (sym (long_asked a b c d l)) in
     rw (same_fields a b c d) (opened_alike (questions (short a b c d)) (questions (long a b c d)) f.width f.picks (head_of f) alike)

@@ -1,14 +1,14 @@
 -- The snapshot of a state: 01, "Keeping the head", the saved form, in the bytes of 02, N4.
 -- Assumes nothing.
 use Rattle.std.specs.Prelude.{ℕ, ◌+◌, ◌-◌, ◌/◌, ◌%◌, cond, ◌||◌, List, [], ◌∷◌, ◌++◌, eqb, length, get_or}
-use Rattle.rules.specs.declared.Head.{Head}
-use Rattle.rules.specs.declared.Head.TheVariants.{None, At}
+use Rattle.rules.specs.Head.{Head}
+use Rattle.std.specs.Prelude.{None, Some}
 use Rattle.arbiter.specs.declared.Answer.{Answer}
 use Rattle.arbiter.specs.declared.State.{State}
-use Rattle.arbiter.specs.declared.question.Verdict.{Verdict}
+use Rattle.arbiter.specs.declared.refusal.Refusal.TheVariants.{ReadLength, HeadRange}
 use Rattle.arbiter.specs.Words.{number}
 use Rattle.arbiter.specs.Questions as Questions
-use Rattle.arbiter.specs.Questions.{◌then◌}
+use Rattle.arbiter.specs.Questions.{Verdict, ◌then◌}
 use Rattle.arbiter.specs.Answers.{Outcome, served, opened, writes}
 use Rattle.snapshot.specs.declared.Fields.{Fields}
 pub mod Laws
@@ -29,12 +29,12 @@ two_bytes n = n % 256 ∷ n / 256 ∷ []
 -- the head mark: "1 if there is a head, else 0"
 abbrev pub mark : Head → ℕ
 mark None = 0
-mark (At h) = 1
+mark (Some h) = 1
 
 -- "the head, or 0 for none", and the mark
 abbrev pub head_bytes : Head → List ℕ
 head_bytes None = two_bytes 0 ++ (mark None ∷ [])
-head_bytes (At h) = two_bytes h ++ (mark (At h) ∷ [])
+head_bytes (Some h) = two_bytes h ++ (mark (Some h) ∷ [])
 
 -- the six bytes of a state: "N − 1 in two bytes, low byte first; m; the head in two bytes likewise; the head mark"
 abbrev pub saved : State → List ℕ
@@ -66,15 +66,15 @@ fields bytes = cond (eqb (length bytes) short_size) (short_fields bytes) (long_f
 
 -- the head with a station and a mark
 abbrev pub marked : ℕ → ℕ → Head
-marked station mark = cond (eqb mark 1) (At station) None
+marked station mark = cond (eqb mark 1) (Some station) None
 
 -- 5: "5 accepts a saved form of four or six bytes"
 abbrev pub read_length : ℕ → Verdict
-read_length length = Questions.refuse_unless (eqb length short_size || eqb length size) 5 0
+read_length length = Questions.refuse_unless (eqb length short_size || eqb length size) ReadLength
 
 -- 4 is "also given if byte 3 is 0 and byte 2 is not"; of six bytes it "reads both head bytes"
 abbrev pub no_stray : Fields → Verdict
-no_stray f = Questions.refuse_unless (eqb f.mark 1 || eqb f.station 0) 4 0
+no_stray f = Questions.refuse_unless (eqb f.mark 1 || eqb f.station 0) HeadRange
 
 -- 1, 3 and 4 of what a snapshot says
 abbrev pub allowed : Fields → Verdict

@@ -3,26 +3,26 @@
 -- Assumes nothing.
 use Rattle.std.specs.Prelude.{ℕ, ◌<◌, ◌≡◌, List, [], ◌∷◌, length, get_or}
 use Rattle.arbiter.specs.declared.State.{State}
-use Rattle.arbiter.specs.Answers.{served}
+use Rattle.arbiter.specs.Answers.{number, served}
 use Rattle.snapshot.specs.Calls as Snapshot
 
 -- the snapshot of a state gives that state
 abbrev pub SnapshotReadBack : Type 0
 SnapshotReadBack =
-    (s : State) (former : List ℕ) → (Snapshot.write s former).answer.number ≡ 0
+    (s : State) (former : List ℕ) → number (Snapshot.write s former).answer ≡ 0
     → Snapshot.read (Snapshot.write s former).written ≡ served 0 s
 
 -- the state that six bytes gave has them for its snapshot; a snapshot's numbers are bytes
 abbrev pub SnapshotWrittenBack : Type 0
 SnapshotWrittenBack =
-    (bytes former : List ℕ) → ((i : ℕ) → get_or bytes i 0 < 256) → length bytes ≡ Snapshot.size → (Snapshot.read bytes).number ≡ 0
+    (bytes former : List ℕ) → ((i : ℕ) → get_or bytes i 0 < 256) → length bytes ≡ Snapshot.size → number (Snapshot.read bytes) ≡ 0
     → length former ≡ Snapshot.size
     → let s = (Snapshot.read bytes).state in Snapshot.write s former ≡ record { answer = served 0 s; written = bytes }
 
 -- "Four-byte forms .. mean the same state": one that is served gives what the snapshot of its state gives
 abbrev pub ShortReadAlike : Type 0
 ShortReadAlike =
-    (bytes : List ℕ) → ((i : ℕ) → get_or bytes i 0 < 256) → length bytes ≡ Snapshot.short_size → (Snapshot.read bytes).number ≡ 0
+    (bytes : List ℕ) → ((i : ℕ) → get_or bytes i 0 < 256) → length bytes ≡ Snapshot.short_size → number (Snapshot.read bytes) ≡ 0
     → Snapshot.read (Snapshot.saved (Snapshot.read bytes).state) ≡ Snapshot.read bytes
 
 -- served or refused, four bytes are answered as six with a high byte of 0 for each number, but for the place that 8 names
@@ -31,4 +31,4 @@ ShortLengthened =
     (a b c d : ℕ) → a < 256
     → let short = Snapshot.read (a ∷ b ∷ c ∷ d ∷ []) in
     let long = Snapshot.read (a ∷ 0 ∷ b ∷ c ∷ 0 ∷ d ∷ []) in
-    (short.number ≡ long.number) × (short.state ≡ long.state)
+    (number short ≡ number long) × (short.state ≡ long.state)

@@ -3,12 +3,16 @@
 // byte for each of these; it is still read, but no longer written.
 #![tactic(auto)]
 
-ghost use Rattle.std.specs.Prelude.{[], ◌∷◌, ◌≡◌, ◌/◌, ◌%◌, ◌<◌, length};
-ghost use Rattle.arbiter.specs.Words as Words;
+ghost use Rattle.std.specs.Prelude.{◌≡◌, length, Ok};
+ghost use Rattle.arbiter.specs.Answers as Answers;
+ghost use Rattle.arbiter.specs.Decisions as Decisions;
+ghost use Rattle.arbiter.specs.Questions as Questions;
+ghost use Rattle.arbiter.specs.Questions.{◌then◌};
 ghost use Rattle.snapshot.specs.Calls as Calls;
 
-use arbiter::question::Verdict;
-use arbiter::{Answer, State, first_station, question, refusal};
+use arbiter::question::{self, Verdict};
+use arbiter::refusal::Refusal;
+use arbiter::{Answer, Decision, State, first_station, headed};
 use rules::Head;
 
 // How long a snapshot is.
@@ -21,7 +25,8 @@ pub const SHORT_LENGTH: usize = 4;
 #[derive(Clone, Copy)]
 pub struct Snapshot(pub State);
 
-// What the bytes of a snapshot say: the width, the picks, the head's station or 0, and the mark.
+// What the bytes of a snapshot say: the width, the picks, the head's station or 0, and the mark. The last two are no head yet, since
+// question 4 refuses a station other than 0 without its mark.
 #[derive(Clone, Copy)]
 struct Fields {
     width: usize,
@@ -37,161 +42,100 @@ impl Snapshot {
         ensures snapshot_after { snapshot.new ≡ (Calls.write self.0 snapshot.old).written }
     {
         let s = self.0;
-        let head = s.head;
-        let verdict = question::write(s.width, s.picks, head, LENGTH, snapshot.len());
-        if verdict.number != refusal::SERVED {
-            return s.refused(verdict);
-        }
-        let last = s.width - 1;
-        let station = first_station(head);
-        snapshot[0] = low(last);
-        snapshot[1] = high(last);
-        snapshot[2] = s.picks as u8;
-        snapshot[3] = low(station);
-        snapshot[4] = high(station);
-        snapshot[5] = mark(head);
-        s.served(0, head)
+        let decided = save(s.width, s.picks, s.head, snapshot);
+        s.answer(decided)
     }
 
     // The state that a snapshot holds. Asks 5, 8 of the last byte, 1, 3 and 4: 3 0 2 1 0 2 is refused by 8 at place 5, and
     // 3 0 2 0 1 0 by 4. The short form 3 2 1 1 gives what 3 0 2 1 0 1 gives, and 3 2 1 2 is refused by 8 at place 3.
+    #[tactic(auto, using(crate::specs::Calls::Laws::read_passed))]
     pub fn read(snapshot: &[u8]) -> Answer
         ensures { result ≡ Calls.read snapshot.now }
     {
-        let verdict = readable(snapshot);
-        if verdict.number != refusal::SERVED {
-            return Answer::opened(verdict, 0, 0, Head::None);
+        match readable(snapshot) {
+            Ok(fields) => Answer::opened(Ok(()), fields.width, fields.picks, fields.head()),
+            Err(refusal) => Answer::opened(Err(refusal), 0, 0, None),
         }
-        let fields = held(snapshot);
-        let head = marked(fields.station, fields.mark);
-        Answer::opened(verdict, fields.width, fields.picks, head)
     }
 }
 
-// The questions of reading a snapshot. The width of a short form, a byte and one more, always passes 1.
-fn readable(snapshot: &[u8]) -> Verdict
-    ensures { result ≡ Calls.questions snapshot.now }
-{
-    let length = snapshot.len();
-    let by_length = question::refuse_unless(
-        (length == SHORT_LENGTH) | (length == LENGTH),
-        refusal::READ_LENGTH,
-        0,
-    );
-    if by_length.number != refusal::SERVED {
-        return by_length;
+impl Fields {
+    // The head that they say.
+    fn head(self) -> Head
+        ensures { result ≡ Calls.marked self.station self.mark }
+    {
+        if self.mark == 1 {
+            Some(self.station)
+        } else {
+            None
+        }
     }
-    let by_mark = question::bits(length - 1, snapshot);
-    let by_fields = allowed(held(snapshot));
-    by_mark.then(by_fields)
-}
 
-// The questions about what a snapshot says: 1, 3 and 4, which is also asked of a head without its mark.
-fn allowed(fields: Fields) -> Verdict
-    ensures { result ≡ Calls.allowed fields }
-{
-    let head = marked(fields.station, fields.mark);
-    let by_width = question::width(fields.width);
-    let by_picks = question::picks(fields.width, fields.picks);
-    let by_head = question::head(fields.width, head);
-    let by_stray = question::refuse_unless(
-        (fields.mark == 1) | (fields.station == 0),
-        refusal::HEAD,
-        0,
-    );
-    by_width.then(by_picks).then(by_head).then(by_stray)
-}
-
-// What a snapshot of either form says.
-fn held(snapshot: &[u8]) -> Fields
-    requires { (Calls.read_length (length snapshot.now)).number ≡ 0 }
-    ensures { result ≡ Calls.fields snapshot.now }
-{
-    if snapshot.len() == SHORT_LENGTH {
-        return held_short(snapshot);
-    }
-    held_long(snapshot)
-}
-
-// What six bytes say.
-fn held_long(snapshot: &[u8]) -> Fields
-    requires { length snapshot.now ≡ Calls.size }
-    ensures { result ≡ Calls.long_fields snapshot.now }
-{
-    let width = word(snapshot[0], snapshot[1]) + 1;
-    let picks = wide(snapshot[2]);
-    let station = word(snapshot[3], snapshot[4]);
-    let mark = wide(snapshot[5]);
-    Fields {
-        width,
-        picks,
-        station,
-        mark,
+    // The questions about them: 1, 3 and 4, which is also asked of a station without its mark.
+    fn allowed(self) -> Verdict
+        ensures { result ≡ Calls.allowed self }
+    {
+        question::state(self.width, self.picks, self.head())?;
+        question::refuse_unless((self.mark == 1) | (self.station == 0), Refusal::HeadRange)
     }
 }
 
-// What four bytes say.
-fn held_short(snapshot: &[u8]) -> Fields
-    requires { length snapshot.now ≡ Calls.short_size }
-    ensures { result ≡ Calls.short_fields snapshot.now }
+// The questions of writing a snapshot; where they pass it writes that of a state of these, and the head stays.
+// By the questions the width is at most 1,024 and the picks at most 8, so the casts lose nothing.
+fn save(width: usize, picks: usize, head: Head, snapshot: &mut [u8]) -> Result<Decision, Refusal>
+    ensures value { result ≡ (Questions.write width picks head Calls.size (length snapshot.old) then Ok (Decisions.headed head)) }
+    ensures snapshot_after { snapshot.new ≡ Answers.if_passed (Questions.write width picks head Calls.size (length snapshot.old)) (Calls.saved (Answers.made width picks head)) (λ _. snapshot.old) }
 {
-    let width = wide(snapshot[0]) + 1;
-    let picks = wide(snapshot[1]);
-    let station = wide(snapshot[2]);
-    let mark = wide(snapshot[3]);
-    Fields {
-        width,
-        picks,
-        station,
-        mark,
+    question::write(width, picks, head, LENGTH, snapshot.len())?;
+    let [width_low, width_high] = ((width - 1) as u16).to_le_bytes();
+    let [station_low, station_high] = (first_station(head) as u16).to_le_bytes();
+    snapshot.copy_from_slice(&[
+        width_low,
+        width_high,
+        picks as u8,
+        station_low,
+        station_high,
+        u8::from(head.is_some()),
+    ]);
+    Ok(headed(head))
+}
+
+// The questions of reading a snapshot, and what it says where they pass. The width of a short form, a byte and one more, always
+// passes 1.
+fn readable(snapshot: &[u8]) -> Result<Fields, Refusal>
+    ensures { result ≡ (Calls.questions snapshot.now then Ok (Calls.fields snapshot.now)) }
+{
+    let fields = held(snapshot)?;
+    question::bits(snapshot.len() - 1, snapshot)?;
+    fields.allowed()?;
+    Ok(fields)
+}
+
+// Question 5, and what a snapshot of either form says where it passes.
+#[tactic(auto, using(crate::specs::Calls::Laws::held_short, crate::specs::Calls::Laws::held_long, crate::specs::Calls::Laws::word), unfolding(crate::specs::Calls::short_fields, crate::specs::Calls::long_fields))]
+fn held(snapshot: &[u8]) -> Result<Fields, Refusal>
+    ensures { result ≡ (Calls.read_length (length snapshot.now) then Ok (Calls.fields snapshot.now)) }
+{
+    match snapshot {
+        [
+            width_low,
+            width_high,
+            picks,
+            station_low,
+            station_high,
+            mark,
+        ] => Ok(Fields {
+            width: usize::from(u16::from_le_bytes([*width_low, *width_high])) + 1,
+            picks: usize::from(*picks),
+            station: usize::from(u16::from_le_bytes([*station_low, *station_high])),
+            mark: usize::from(*mark),
+        }),
+        [width, picks, station, mark] => Ok(Fields {
+            width: usize::from(*width) + 1,
+            picks: usize::from(*picks),
+            station: usize::from(*station),
+            mark: usize::from(*mark),
+        }),
+        _ => Err(Refusal::ReadLength),
     }
-}
-
-// The head with this station and this mark.
-fn marked(station: usize, mark: usize) -> Head
-    ensures { result ≡ Calls.marked station mark }
-{
-    if mark == 1 {
-        return Head::At(station);
-    }
-    Head::None
-}
-
-// The mark of a head.
-fn mark(head: Head) -> u8
-    ensures { result ≡ Calls.mark head }
-{
-    match head {
-        Head::None => 0,
-        Head::At(_) => 1,
-    }
-}
-
-// The number in two bytes.
-fn word(low: u8, high: u8) -> usize
-    ensures value { result ≡ Words.number (low ∷ high ∷ []) }
-    ensures upper_bound { result < 65536 }
-{
-    wide(low) + 256 * wide(high)
-}
-
-fn wide(x: u8) -> usize
-    ensures { (result ≡ x) × (result < 256) }
-{
-    x as usize
-}
-
-// The low byte of a number.
-fn low(n: usize) -> u8
-    ensures { result ≡ n % 256 }
-{
-    (n % 256) as u8
-}
-
-// The byte above it.
-fn high(n: usize) -> u8
-    requires { n < 65536 }
-    ensures { result ≡ n / 256 }
-{
-    (n / 256) as u8
 }

@@ -1,69 +1,68 @@
-// Writing text into a buffer. Each function writes its text into `out` from `at` on, as much of it as there is room for, and
-// answers the place after what it wrote. Every other byte stays as it was. So pieces can be written one after the other, each at
-// the place that the one before it answered.
+// Writing text into a buffer, piece by piece. Each piece goes behind the one before it, as much of it as there is room for. Every
+// other byte stays as it was.
 #![tactic(auto)]
+
+#[cfg(test)]
+mod tests;
 
 ghost use Rattle.std.specs.Prelude.{[], ◌∷◌, ◌≡◌};
 ghost use Rattle.text.specs.Characters as Characters;
-ghost use Rattle.text.specs.Output.{Put};
+ghost use Rattle.text.specs.Output.{Written};
 
-// One character. Answers `at + 1`; where `at` is no place of `out`, it writes nothing and answers `at`.
-pub fn put(character: u8, out: &mut [u8], at: usize) -> usize
-    ensures { Put out.old at (character ∷ []) out.new result }
-{
-    if at >= out.len() {
-        return at;
-    }
-    out[at] = character;
-    at + 1
+use itoa::Buffer;
+
+// A buffer, and the place in it where the next piece goes.
+#[derive(Drop)]
+pub struct Output<'a> {
+    pub bytes: &'a mut [u8],
+    pub at: usize,
 }
 
-// These characters. Answers `at` plus their number; where not all fit, the length of `out`; where `at` is no place of `out`, it
-// writes nothing and answers `at`.
-pub fn put_all(text: &[u8], out: &mut [u8], at: usize) -> usize
-    ensures { Put out.old at text.now out.new result }
-{
-    let mut i: usize = 0;
-    let mut end = at;
-    while i < text.len() {
-        end = put(text[i], out, end);
-        i += 1;
+impl Output<'_> {
+    // Writes these characters. The place moves on by their number; where not all fit, to the end of the buffer; where it is past
+    // the end, nothing is written and it stays.
+    #[tactic(auto, using(crate::specs::Output::Laws::put_out, crate::specs::Output::Laws::put_copied))]
+    pub fn put_all(&mut self, text: &[u8])
+        ensures { Written self.old text.now self.new }
+    {
+        let at = self.at;
+        if at >= self.bytes.len() {
+            return;
+        }
+        let count = text.len().min(self.bytes.len() - at);
+        self.bytes[at..at + count].copy_from_slice(&text[..count]);
+        self.at = at + count;
     }
-    end
-}
 
-// A character for each byte: 1 for the byte 1, 0 for any other. Answers as `put_all` does.
-pub fn put_bits(bits: &[u8], out: &mut [u8], at: usize) -> usize
-    ensures { Put out.old at (Characters.bits bits.now) out.new result }
-{
-    let mut i: usize = 0;
-    let mut end = at;
-    while i < bits.len() {
-        end = put(bit(bits[i]), out, end);
-        i += 1;
+    // Writes one character, as `put_all` does.
+    pub fn put(&mut self, character: u8)
+        ensures { Written self.old (character ∷ []) self.new }
+    {
+        self.put_all(&[character]);
     }
-    end
+
+    // Writes a character for each byte, as `put_all` does: 1 for the byte 1, 0 for any other.
+    pub fn put_bits(&mut self, bits: &[u8])
+        ensures { Written self.old (Characters.bits bits.now) self.new }
+    {
+        for byte in bits {
+            self.put(bit(*byte));
+        }
+    }
+
+    // Writes the decimal digits of a number, with no leading zero, as `put_all` does. Where not all fit, it is the first ones that
+    // are written.
+    #[tactic(auto, using(crate::specs::Characters::Laws::decimal_same))]
+    pub fn put_number(&mut self, n: usize)
+        ensures { Written self.old (Characters.decimal n) self.new }
+    {
+        self.put_all(Buffer::new().format(n).as_bytes());
+    }
 }
 
 // The character of a bit.
 fn bit(byte: u8) -> u8
     ensures { result ≡ Characters.bit byte }
 {
-    if byte == 1 {
-        return b'1';
-    }
-    b'0'
-}
-
-// The decimal digits of a number, with no leading zero. Where not all fit, it is the first ones that are written. Answers as
-// `put_all` does.
-pub fn put_number(n: usize, out: &mut [u8], at: usize) -> usize
-    ensures { Put out.old at (Characters.decimal n) out.new result }
-{
-    let last = b'0' + (n % 10) as u8;
-    if n < 10 {
-        return put(last, out, at);
-    }
-    let end = put_number(n / 10, out, at);
-    put(last, out, end)
+    if byte == 1 { b'1' } else { b'0' }
 }

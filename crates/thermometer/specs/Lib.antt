@@ -1,3 +1,2 @@
 pub mod Adder
 pub mod Runs
-pub mod Trace

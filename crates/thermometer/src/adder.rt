@@ -1,52 +1,41 @@
 // Thermometer codes and the saturated adder. The code of a count has that many of its lowest bits set.
-ghost use Rattle.std.specs.Prelude.{true, ◌≡◌, ◌≤◌, min};
+ghost use Rattle.std.specs.Prelude.{true, ◌≡◌, ◌≤◌, min, max};
 ghost use Rattle.std.specs.Int.Count.{ones};
 ghost use Rattle.rules.specs.Thermometer as Rule;
 ghost use Rattle.thermometer.specs.Adder as Adder;
 
-use arbiter::question::Verdict;
-use arbiter::{MAX_PICKS, question, refusal};
+use arbiter::refusal::Refusal;
+use arbiter::{MAX_PICKS, question};
 
-// What the adder answers: the number of its refusal (0 when served), the place, which is always 0, and the code, 0 where it
-// refuses.
+// A number of picks, from 1 to 8, by its code.
 #[derive(Clone, Copy)]
-pub struct Sum {
-    pub number: usize,
-    pub place: usize,
+pub struct Picks {
     pub code: u8,
+    pub ghost coded: { Rule.is_code 8 code ≡ true },
+    pub ghost some: { 1 ≤ ones code },
+}
+
+impl Picks {
+    // So many picks: the code of 3 is 111. It takes any number: 0 makes one pick, and more than 8 make eight.
+    #[tactic(auto, using(rules::proofs::Thermometer::Laws::is_code_lem, rules::proofs::Thermometer::Laws::ones_code))]
+    pub fn new(picks: usize) -> Picks
+        ensures { ones result.code ≡ min 8 (max 1 picks) }
+    {
+        Picks {
+            code: code(picks.max(1)),
+        }
+    }
 }
 
 // The code of the sum of two counts, or of the picks if that is smaller. Asks 3 and 13. With 2 picks 01 and 01 give 11, 11 and
 // 01 give 11, and 10 is refused by 13.
-pub fn add(picks: usize, left: u8, right: u8) -> Sum
+pub fn add(picks: usize, left: u8, right: u8) -> Result<u8, Refusal>
     ensures { result ≡ Adder.sum picks left right }
 {
-    let verdict = addable(picks, left, right);
-    if verdict.number != refusal::SERVED {
-        return Sum {
-            number: verdict.number,
-            place: verdict.place,
-            code: 0,
-        };
-    }
-    Sum {
-        number: refusal::SERVED,
-        place: 0,
-        code: join(picks, left, right),
-    }
-}
-
-// Questions 3 and 13 of the adder.
-fn addable(picks: usize, left: u8, right: u8) -> Verdict
-    ensures { result ≡ Adder.questions picks left right }
-{
-    let by_picks = question::refuse_unless((1 <= picks) & (picks <= MAX_PICKS), refusal::PICKS, 0);
-    let by_codes = question::refuse_unless(
-        is_code(picks, left) & is_code(picks, right),
-        refusal::CODE,
-        0,
-    );
-    by_picks.then(by_codes)
+    question::refuse_unless((1 <= picks) & (picks <= MAX_PICKS), Refusal::Picks)?;
+    let coded = is_code(picks, left) & is_code(picks, right);
+    question::refuse_unless(coded, Refusal::Code)?;
+    Ok(join(picks, left, right))
 }
 
 // The code of the counts' sum, or of the picks if that is smaller.
@@ -54,48 +43,38 @@ fn join(picks: usize, left: u8, right: u8) -> u8
     requires { picks ≤ 8 }
     ensures { result ≡ Rule.add picks left right }
 {
-    let sum = count(left) + count(right);
-    if sum < picks {
-        return code(sum);
-    }
-    code(picks)
+    code((count(left) + count(right)).min(picks))
 }
 
-// One step of a running count: the sum of a code and a request's code, which is 0 or 1. `full` is the code of the picks. The code
-// of one more is 2 * code + 1, of which `full` keeps what the picks allow, and a request of 0 nothing.
-pub(crate) fn step(full: u8, code: u8, request: u8) -> u8
-    requires full_value { Rule.is_code 8 full ≡ true }
-    requires code_value { Rule.is_code (ones full) code ≡ true }
+// One step of a running count: the sum of a code and a request's code, which is 0 or 1. The code of one more is 2 * code + 1,
+// of which the code of the picks keeps what they allow, and a request of 0 nothing. It calls no function, not even `u32::from`.
+pub(crate) fn step(picks: Picks, code: u8, request: u8) -> u8
+    requires code_value { Rule.is_code (ones picks.code) code ≡ true }
     requires request_bound { request ≤ 1 }
-    ensures { result ≡ Rule.add (ones full) code request }
+    ensures { result ≡ Rule.add (ones picks.code) code request }
 {
-    let more = (2 * (code as u32) + 1) & ((full as u32) * (request as u32));
+    let more = (2 * (code as u32) + 1) & ((picks.code as u32) * (request as u32));
     code | (more as u8)
 }
 
-// The code of a count. A byte has room for eight: of a larger count it is the code of 8.
+// The code of a count. A byte has room for eight: of a larger count it is the code of 8. The cast loses nothing.
 pub fn code(count: usize) -> u8
     ensures { result ≡ Rule.code (min 8 count) }
 {
-    if count < MAX_PICKS {
-        let above: u32 = 1 << count;
-        return (above - 1) as u8;
-    }
-    255
+    let above: u32 = 1 << count.min(MAX_PICKS);
+    (above - 1) as u8
 }
 
-// The count of a code: the number of its ones.
+// The count of a code: the number of its ones. The library gives it as a `u32`, and there is no `From` for the cast.
 pub fn count(code: u8) -> usize
     ensures { result ≡ ones code }
 {
-    u8::count_ones(code) as usize
+    code.count_ones() as usize
 }
 
 // Whether a byte is a code for these picks: all its ones are at its low end, and they are no more than the picks.
 fn is_code(picks: usize, byte: u8) -> bool
     ensures { result ≡ Rule.is_code picks byte }
 {
-    let ones = count(byte);
-    let trailing_ones = u8::trailing_zeros(!byte) as usize;
-    (trailing_ones == ones) & (ones <= picks)
+    (byte.trailing_ones() == byte.count_ones()) & (count(byte) <= picks)
 }

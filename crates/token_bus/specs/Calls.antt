@@ -1,16 +1,14 @@
 -- The token bus's calls with any input: 01, "The token bus" and "Questions each call asks, in this order".
 -- Assumes nothing.
-use Rattle.std.specs.Prelude.{ℕ, Bool, List, length}
-use Rattle.rules.specs.declared.Head.{Head}
-use Rattle.rules.specs.declared.Head.TheVariants.{At}
+use Rattle.std.specs.Prelude.{ℕ, Bool, List, length, Some}
+use Rattle.rules.specs.Head.{Head}
 use Rattle.rules.specs.RoundRobin.{start}
 use Rattle.rules.specs.Bus as Bus
 use Rattle.arbiter.specs.declared.Answer.{Answer}
 use Rattle.arbiter.specs.declared.Decision.{Decision}
 use Rattle.arbiter.specs.declared.State.{State}
-use Rattle.arbiter.specs.declared.question.Verdict.{Verdict}
 use Rattle.arbiter.specs.Questions as Questions
-use Rattle.arbiter.specs.Questions.{◌then◌}
+use Rattle.arbiter.specs.Questions.{Verdict, ◌then◌}
 use Rattle.arbiter.specs.Answers.{Outcome, decided, opened, writes}
 use Rattle.arbiter.specs.Cycle.{asking}
 pub mod Laws
@@ -29,7 +27,7 @@ token s = start s.head
 
 -- what a cycle decides, apart from any state: how many are granted, and the next token
 abbrev pub decision : ℕ → ℕ → Bool → (ℕ → Bool) → Decision
-decision n t ack asks = record { count = length (Bus.granted n t asks); next = At (Bus.next n t ack asks) }
+decision n t ack asks = record { count = length (Bus.granted n t asks); next = Some (Bus.next n t ack asks) }
 
 -- the answer of a served cycle
 abbrev pub answer : State → List ℕ → ℕ → Answer
@@ -41,7 +39,7 @@ granting s requests = Bus.grants s.width (token s) (asking s requests)
 
 -- the questions of a cycle with these requests, a grant buffer of this length and this acknowledge byte: 1, 3, 4, 5, 6, 8 and 9
 abbrev pub questions : ℕ → ℕ → Head → List ℕ → ℕ → ℕ → Verdict
-questions n m h requests size byte = (Questions.cycle (state n m h) n requests size).verdict then Questions.acknowledge byte
+questions n m h requests size byte = state n m h then Questions.cycle n requests size then Questions.acknowledge byte
 
 -- a cycle, with the grant buffer's former bytes
 abbrev pub cycle : State → List ℕ → List ℕ → ℕ → Outcome

@@ -1,3 +1,2 @@
 pub mod Zeros
-pub mod Outcomes
 pub mod Runs

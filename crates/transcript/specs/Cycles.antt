@@ -1,12 +1,13 @@
 -- Opening and the cycle lines: 01, "The program `turns`".
 -- Assumes nothing.
-use Rattle.std.specs.Prelude.{ℕ, ◌+◌, ◌*◌, Bool, false, cond, ◌&&◌, List, [], ◌∷◌, ◌++◌, map, eqb, length, take, get_or, replicate}
-use Rattle.rules.specs.declared.Head.TheVariants.{None, At}
+use Rattle.std.specs.Prelude.{ℕ, ◌+◌, ◌*◌, Bool, false, cond, ◌&&◌, List, [], ◌∷◌, ◌++◌, map, eqb, length, take, get_or, replicate, None, Some, Result, Ok, Err}
 use Rattle.rules.specs.RoundRobin.{start}
 use Rattle.text.specs.Characters.{line_feed, space, digit, decimal, bits}
 use Rattle.arbiter.specs.declared.Answer.{Answer}
 use Rattle.arbiter.specs.declared.State.{State}
-use Rattle.arbiter.specs.Questions as Questions
+use Rattle.arbiter.specs.declared.refusal.Refusal.{Refusal}
+use Rattle.arbiter.specs.declared.refusal.Refusal.TheVariants.{ReadLength}
+use Rattle.arbiter.specs.Refusals as Refusals
 use Rattle.arbiter.specs.Answers.{Outcome, refused}
 use Rattle.engines.specs.Calls as Engines
 use Rattle.token_bus.specs.Calls as Bus
@@ -17,7 +18,7 @@ pub mod Laws
 -- "It opens with no head, for B with token 0"
 abbrev pub opening : Kind → ℕ → ℕ → Answer
 opening (RoundRobin e) n m = Engines.opening e n m None
-opening TokenBus n m = Bus.opening n m (At 0)
+opening TokenBus n m = Bus.opening n m (Some 0)
 
 -- a line that question 5 lets pass: "a cycle of N characters"; "For B a space and one acknowledge character follow"
 abbrev pub well_formed : Kind → ℕ → List ℕ → Bool
@@ -41,7 +42,7 @@ unfoldable pub cycle : Kind → State → List ℕ → Outcome
 cycle e s line =
     cond (well_formed e s.width line)
     (called e s (map wire (take s.width line)) (wire (get_or line (s.width + 1) 0)))
-    (record { answer = refused (Questions.refuse_unless false 5 0) s; written = replicate s.width 0 })
+    (record { answer = refused ReadLength s; written = replicate s.width 0 })
 
 -- " refused "
 abbrev pub refused_word : List ℕ
@@ -52,15 +53,21 @@ unfoldable pub refusal : ℕ → ℕ → ℕ → List ℕ
 refusal k number place =
     decimal k ++ (refused_word ++ (decimal number ++ ((space ∷ []) ++ (decimal place ++ (line_feed ∷ [])))))
 
+abbrev pub refused_line : ℕ → Refusal → List ℕ
+refused_line k r = refusal k (Refusals.number r) (Refusals.place r)
+
 -- what a served cycle prints: "its number from 1, the grants as N characters 0 or 1, and the next head, parted by single spaces"
 unfoldable pub granted : ℕ → List ℕ → ℕ → List ℕ
 granted k grants next = decimal k ++ ((space ∷ []) ++ (bits grants ++ ((space ∷ []) ++ (decimal next ++ (line_feed ∷ [])))))
 
--- what the k-th cycle line prints. A served cycle ends with a head, and `start` is its station
+-- what the k-th cycle line prints: what a call came to, the grants, and the next head's station
+abbrev pub told : ℕ → Result ℕ Refusal → List ℕ → ℕ → List ℕ
+told k (Ok count) grants next = granted k grants next
+told k (Err refusal) grants next = refused_line k refusal
+
+-- a served cycle ends with a head, and `start` is its station
 unfoldable pub printed : ℕ → Outcome → List ℕ
-printed k o =
-    cond (eqb o.answer.number 0) (granted k o.written (start o.answer.state.head))
-    (refusal k o.answer.number o.answer.place)
+printed k o = told k o.answer.outcome o.written (start o.answer.state.head)
 
 -- what the cycle lines from the k-th on print: "the run goes on with the old state" after a refused one, which its answer has
 unfoldable pub run : Kind → State → ℕ → List (List ℕ) → List ℕ

@@ -1,6 +1,8 @@
 -- The lines of an input.
 -- Assumes nothing.
 use Rattle.std.specs.Prelude.{ℕ, zero, suc, ◌-◌, cond, List, [], ◌∷◌, eqb, leb, length, take, drop, get_or}
+use Rattle.std.specs.Slice.Iter.{split_rest, split_done}
+use Rattle.std.specs.declared.slice.Split.{Split}
 use Rattle.text.specs.Characters.{line_feed}
 pub mod Laws
 
@@ -27,6 +29,6 @@ unended input = cond (eqb (get_or input (length input - 1) 0) line_feed) (take (
 abbrev pub lines : List ℕ → List (List ℕ)
 lines input = split line_feed (unended input)
 
--- the lines that start at a place of an input without its final line feed, or after it
-unfoldable pub lines_from : List ℕ → ℕ → List (List ℕ)
-lines_from body from = cond (leb from (length body)) (split line_feed (drop from body)) []
+-- the lines that an iterator over them has left
+abbrev pub left : {P : Type 0} → Split ℕ P → List (List ℕ)
+left lines = cond (split_done lines) [] (split line_feed (split_rest lines))

@@ -1,11 +1,13 @@
 -- Everything that the program `turns` prints, for any input: 01, "The program `turns`".
 -- Assumes nothing.
-use Rattle.std.specs.Prelude.{ℕ, ◌+◌, ◌≤◌, ◌≡◌, cond, List, [], ◌∷◌, ◌++◌, eqb, leb, length, take, drop, get_or}
+use Rattle.std.specs.Prelude.{ℕ, ◌+◌, ◌≤◌, ◌≡◌, cond, List, [], ◌∷◌, ◌++◌, eqb, leb, length, take, drop, get_or, Option, None, Some, Result, Ok, Err}
+use Rattle.arbiter.specs.declared.State.{State}
+use Rattle.arbiter.specs.declared.refusal.Refusal.{Refusal}
 use Rattle.transcript.specs.declared.first_line.FirstLine.{FirstLine}
-use Rattle.transcript.specs.declared.first_line.FirstLine.TheVariants.{Opens, Unreadable}
+use Rattle.transcript.specs.declared.first_line.Kind.{Kind}
 use Rattle.transcript.specs.Lines.{lines}
 use Rattle.transcript.specs.FirstLine.{first_line}
-use Rattle.transcript.specs.Cycles.{opening, refusal, run}
+use Rattle.transcript.specs.Cycles.{opening, refusal, refused_line, run}
 pub mod Laws
 pub mod Known
 
@@ -22,13 +24,17 @@ max_input = 65536
 abbrev pub read_size : ℕ
 read_size = max_input + 1
 
+-- what follows the heading once an engine is opened, given what the opening came to and the state that it made
+abbrev pub opened_with : Kind → Result ℕ Refusal → State → List (List ℕ) → List ℕ
+opened_with e (Ok count) s ls = run e s 1 ls
+opened_with e (Err refusal) s ls = refused_line 0 refusal
+
 -- what follows the heading once the first line is read: "A refused opening, and 11 or 12, print line number 0 in that form and
 -- end the run"
-unfoldable pub opened : FirstLine → List (List ℕ) → List ℕ
-opened Unreadable ls = refusal 0 11 0
-opened (Opens e n m) ls =
-    let a = opening e n m in
-    cond (eqb a.number 0) (run e a.state 1 ls) (refusal 0 a.number a.place)
+unfoldable pub opened : Option FirstLine → List (List ℕ) → List ℕ
+opened None ls = refusal 0 11 0
+opened (Some f) ls =
+    let a = opening f.kind f.width f.picks in opened_with f.kind a.outcome a.state ls
 
 -- what follows the heading, given the lines of the input
 abbrev pub answered : List (List ℕ) → List ℕ

@@ -1,6 +1,9 @@
 // Opening an engine, and its cycle lines.
-ghost use Rattle.std.specs.Prelude.{◌≡◌, ◌+◌, ◌*◌, ◌≤◌, true, map, length, get_or, replicate};
-ghost use Rattle.text.specs.Output.{Put};
+ghost use Rattle.std.specs.Prelude.{◌≡◌, ◌+◌, ◌*◌, ◌≤◌, ◌==◌, true, map, length, get_or, replicate};
+ghost use Rattle.std.specs.Fn.{ComputesKey};
+ghost use Rattle.std.specs.Slice.Iter.{split_callee};
+ghost use Rattle.text.specs.Characters.{line_feed};
+ghost use Rattle.text.specs.Output.{Written};
 ghost use Rattle.engines.specs.Calls as Engines;
 ghost use Rattle.arbiter.specs.Questions.{max_width};
 ghost use Rattle.transcript.specs.Cycles as Cycles;
@@ -8,17 +11,20 @@ ghost use Rattle.transcript.specs.Lines as Lines;
 ghost use Rattle.transcript.specs.Text as Text;
 
 use crate::first_line::Kind;
-use crate::{lines, output};
-use arbiter::{Answer, MAX_WIDTH, State, first_station, question, refusal};
+use crate::output;
+use arbiter::engine::Arbiter;
+use arbiter::refusal::Refusal;
+use arbiter::{Answer, MAX_WIDTH, State, first_station};
 use engines::{Dispatch, Engine};
+use std::slice::Split;
+use text::Output;
 use token_bus::TokenBus;
 
-// How far a run has come: the state, the number of the next line, and the place of its text in the output.
+// How far a run has come: the state, and the number of the next line.
 #[derive(Clone, Copy)]
 struct Progress {
     state: State,
     number: usize,
-    at: usize,
 }
 
 // Opens an engine without a head, the bus with token 0.
@@ -31,38 +37,34 @@ pub(crate) fn open(kind: Kind, width: usize, picks: usize) -> Answer
     }
 }
 
-// Runs the cycle lines that start at `from` and after, from line number 1, and writes what each prints.
-pub(crate) fn print_lines(
+// Runs the cycle lines that are left, from line number 1, and writes what each prints.
+pub(crate) fn print_lines<P: FnMut(&u8) -> bool>(
     kind: Kind,
     opened: State,
-    body: &[u8],
-    from: usize,
-    out: &mut [u8],
-    at: usize,
-) -> usize
+    lines: Split<'_, u8, P>,
+    out: &mut Output,
+)
     requires width_le_max_width { opened.width ≤ max_width }
-    requires body_len_bound { length body.now ≤ Text.max_input }
-    ensures { Put out.old at (Cycles.run kind opened 1 (Lines.lines_from body.now from)) out.new result }
+    requires at_line_feeds { ComputesKey P.FnMut (λ byte. byte == line_feed) (split_callee lines) }
+    requires callable { P.IsAlwaysCallable (split_callee lines) }
+    requires lines_bound { length (Lines.left lines) ≤ Text.max_input }
+    ensures { Written out.old (Cycles.run kind opened 1 (Lines.left lines.entry)) out.new }
 {
     let mut run = Progress {
         state: opened,
         number: 1,
-        at,
     };
-    let mut start = from;
-    while start <= body.len() {
-        let end = lines::line_end(body, start);
-        run = print_line(kind, run, &body[start..end], out);
-        start = end + 1;
+    for line in lines {
+        run = print_line(kind, run, line, out);
     }
-    run.at
 }
 
 // One cycle line: runs it and writes what it prints.
-fn print_line(kind: Kind, run: Progress, line: &[u8], out: &mut [u8]) -> Progress
+#[tactic(auto, using(crate::proofs::Zeros::again, crate::specs::Cycles::Laws::cycle_printable), unfolding(crate::specs::Cycles::printed))]
+fn print_line(kind: Kind, run: Progress, line: &[u8], out: &mut Output) -> Progress
     requires width_le_max_width { run.state.width ≤ max_width }
     requires number_bound { run.number ≤ Text.max_input + 1 }
-    ensures put { Put out.old run.at (Cycles.printed run.number (Cycles.cycle kind run.state line.now)) out.new result.at }
+    ensures written { Written out.old (Cycles.printed run.number (Cycles.cycle kind run.state line.now)) out.new }
     ensures state_value { result.state ≡ (Cycles.cycle kind run.state line.now).answer.state }
     ensures number_value { result.number ≡ run.number + 1 }
 {
@@ -71,18 +73,16 @@ fn print_line(kind: Kind, run: Progress, line: &[u8], out: &mut [u8]) -> Progres
     let width = former.width;
     let answer = cycle(kind, former, line, &mut grants[..width]);
     let state = answer.state;
-    let number = run.number + 1;
-    if answer.number != refusal::SERVED {
-        let at = output::put_refusal(run.number, answer.number, answer.place, out, run.at);
-        return Progress { state, number, at };
+    let next = first_station(state.head);
+    output::put_cycle(run.number, answer.outcome, &grants[..width], next, out);
+    Progress {
+        state,
+        number: run.number + 1,
     }
-    let head = state.head;
-    let next = first_station(head);
-    let at = output::put_granted(run.number, &grants[..width], next, out, run.at);
-    Progress { state, number, at }
 }
 
 // The cycle of one line, with a grant buffer of zeros.
+#[tactic(auto, using(crate::proofs::Zeros::again, crate::specs::Cycles::Laws::formed_long), unfolding(crate::specs::Cycles::cycle))]
 fn cycle(kind: Kind, s: State, line: &[u8], grants: &mut [u8]) -> Answer
     requires width_le_max_width { s.width ≤ max_width }
     requires grants_value { grants.old ≡ replicate s.width 0 }
@@ -91,7 +91,7 @@ fn cycle(kind: Kind, s: State, line: &[u8], grants: &mut [u8]) -> Answer
 {
     let width = s.width;
     if !well_formed(kind, width, line) {
-        return s.refused(question::refuse_unless(false, refusal::READ_LENGTH, 0));
+        return s.answer(Err(Refusal::ReadLength));
     }
     let mut requests = [0u8; MAX_WIDTH];
     read_wires(&line[..width], &mut requests[..width]);
@@ -121,7 +121,7 @@ fn engine_cycle(engine: Engine, s: State, requests: &[u8], grants: &mut [u8]) ->
     ensures value { result ≡ (Engines.cycle engine s requests.now grants.old (replicate (2 * s.width) 0)).answer }
     ensures grants_after { grants.new ≡ (Engines.cycle engine s requests.now grants.old (replicate (2 * s.width) 0)).grants }
 {
-    let mut nodes = [0; 2048];
+    let mut nodes = [0; 2 * MAX_WIDTH];
     let end = 2 * s.width;
     Dispatch(s).cycle(engine, requests, grants, &mut nodes[..end])
 }
@@ -133,18 +133,8 @@ fn well_formed(kind: Kind, width: usize, line: &[u8]) -> bool
 {
     match kind {
         Kind::RoundRobin(_) => line.len() == width,
-        Kind::TokenBus => is_bus_line(width, line),
+        Kind::TokenBus => line.len() == width + 2 && line[width] == b' ',
     }
-}
-
-fn is_bus_line(width: usize, line: &[u8]) -> bool
-    requires { width ≤ max_width }
-    ensures { result ≡ Cycles.well_formed Kind.TokenBus width line.now }
-{
-    if line.len() != width + 2 {
-        return false;
-    }
-    line[width] == b' '
 }
 
 // The bytes that the characters of the stations stand for.
@@ -152,14 +142,13 @@ fn read_wires(line: &[u8], requests: &mut [u8])
     requires { length requests.old ≡ length line.now }
     ensures { requests.new ≡ map Cycles.wire line.now }
 {
-    let mut i: usize = 0;
-    while i < line.len() {
-        requests[i] = wire(line[i]);
-        i += 1;
+    for (i, character) in line.iter().enumerate() {
+        requests[i] = wire(*character);
     }
 }
 
 // The byte that a character stands for: any but 0 and 1 for byte 2, which no call takes for a wire.
+#[tactic(auto, unfolding(crate::specs::Cycles::wire))]
 fn wire(character: u8) -> u8
     ensures { result ≡ Cycles.wire character }
 {

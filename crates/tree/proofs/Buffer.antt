@@ -1,75 +1,78 @@
 -- The node buffer, byte by byte: the stations' nodes are written, then the others are joined, level by level.
 -- Assumes nothing.
-use Prim.Native.Nat.{ℕ, zero, suc, ◌+◌, ◌-◌, ◌*◌, ◌/◌, ◌%◌, ◌≤◌, ◌<◌}
+use Prim.Native.Nat.{ℕ, zero, suc, ◌+◌, ◌-◌, ◌*◌, ◌≤◌, ◌<◌}
 use mathlib.Core.Path.{◌≡◌, refl, sym, ap, ◌∙◌}
 use mathlib.Core.Bool.{Bool}
 use mathlib.Core.List.{List, map}
 use native.Mathlib.Nat.{zero-add, add-zero}
 use native.Mathlib.Omega.{arith}
 use lib.Dec.{eqb, ltb}
-use lib.ListN.{length, get_or, set, drop, length-drop, length-set}
-use lib.Seq.{get_or-set_same, get_or-set_other, get_or-drop, drop-cons, drop-drop, drop-set-lt, set_split, ext_get_or}
+use lib.ListN.{length, get_or, set, take, drop, length-drop, length-set}
+use lib.Seq.{length-take-le, get_or-set_same, get_or-set_other, get_or-drop, drop-cons, drop-drop, drop-set-lt, set_split, ext_get_or}
 use borrow.Author.Count.{below_more}
 use borrow.Author.Tests.{eqb-true, eqb-false, ltb-true, ltb-false}
-use Rattle.rules.specs.declared.Head.{Head}
-use Rattle.rules.specs.declared.Head.TheVariants.{None, At}
+use Rattle.std.proofs.Common.{[], ◌++◌, append-nil}
+use Rattle.std.proofs.lemmas.List.{drop_at, drop_all}
+use borrow.Rule.Slice.PartMut.{put_mid}
+use Rattle.rules.specs.Head.{Head}
+use Rattle.std.specs.Prelude.{None, Some}
 use Rattle.rules.specs.Lists.{bit, range}
 use Rattle.rules.specs.Lists.Laws as Lists
 use Rattle.rules.specs.Tree.{value, head_at, leaf, join, joined}
 use Rattle.rules.proofs.Tree.Laws.{value_below}
 use Rattle.arbiter.specs.Decisions.{requested}
 use Rattle.arbiter.specs.Places.{Bits}
-use Rattle.tree.specs.Steps.{ValuesFrom, max_pairs, Pairs, Level, DoneFrom}
+use Rattle.tree.specs.Steps.{ValuesFrom, Level, DoneFrom}
 
--- the stations' nodes, byte by byte
-pub stations : (n : ℕ) (t xs : List ℕ) → length t ≡ 2 * n → length xs ≡ n
-    → ((j : ℕ) → j < n → get_or t (n + j) 0 ≡ get_or xs j 0) → drop n t ≡ xs
-stations n t xs long size at =
-    let part : length (drop n t) ≡ n = length-drop n t ∙ (omega arith) in
-    ext_get_or 0 (drop n t) xs (part ∙ sym size) (λ j l. get_or-drop n t j 0 ∙ at j (omega arith))
+-- bytes that hold what f says, each at its place
+leaves : (f : ℕ → ℕ) (xs : List ℕ) → ((j : ℕ) → j < length xs → get_or xs j 0 ≡ f j) → xs ≡ map f (range 0 (length xs))
+leaves f xs at =
+    ext_get_or 0 xs (map f (range 0 (length xs))) (sym (Lists.length_table f 0 (length xs)))
+    (λ j l. at j l ∙ sym (Lists.get_d_table f 0 (length xs) j l ∙ rw zero-add))
 
--- the same where they are to hold what f says
-leaves : (f : ℕ → ℕ) (n : ℕ) (t : List ℕ) → length t ≡ 2 * n → ((j : ℕ) → j < n → get_or t (n + j) 0 ≡ f j)
-    → drop n t ≡ map f (range 0 n)
-leaves f n t long at =
-    stations n t (map f (range 0 n)) long (Lists.length_table f 0 n)
-    (λ j l. at j l ∙ sym (Lists.get_d_table f 0 n j l ∙ rw zero-add))
-
--- they hold the requests, and then the head is marked
-module _ (n : ℕ) (t : List ℕ) (long : length t ≡ 2 * n) (bits : Bits (drop n t)) where
-  pub request_bit : (i : ℕ) → i < n → get_or t (n + i) 0 ≤ 1
-  request_bit i l = omega (arith, get_or-drop n t i 0, bits i (omega (arith, length-drop n t)))
-
+-- the stations' nodes hold the requests, and then the head is marked
+module _ (xs : List ℕ) (bits : Bits xs) where
   -- a station's value is its request, and 2 more for the head
-  leaf_value : (h : Head) (i : ℕ) → i < n → leaf h (requested (drop n t)) i ≡ 2 * bit (head_at h i) + get_or t (n + i) 0
+  leaf_value : (h : Head) (i : ℕ) → i < length xs → leaf h (requested xs) i ≡ 2 * bit (head_at h i) + get_or xs i 0
   unfolding leaf value
   leaf_value h i l =
-      rw (get_or-drop n t i 0)
-      (Lists.split (eqb (get_or t (n + i) 0) 1)
-      (λ q. rw q (omega (arith, eqb-true (get_or t (n + i) 0) 1 q)))
-      (λ q. rw q (omega (arith, eqb-false (get_or t (n + i) 0) 1 q, request_bit i l))))
+      Lists.split (eqb (get_or xs i 0) 1)
+      (λ q. rw q (omega (arith, eqb-true (get_or xs i 0) 1 q)))
+      (λ q. rw q (omega (arith, eqb-false (get_or xs i 0) 1 q, bits i l)))
 
   -- with no head they stay
-  pub marked_none : drop n t ≡ map (leaf None (requested (drop n t))) (range 0 n)
+  pub marked_none : xs ≡ map (leaf None (requested xs)) (range 0 (length xs))
   unfolding head_at
-  marked_none = leaves (leaf None (requested (drop n t))) n t long (λ j l. omega (arith, leaf_value None j l))
+  marked_none = leaves (leaf None (requested xs)) xs (λ j l. omega (arith, leaf_value None j l))
 
   -- with the head at h, its byte is 2 more
-  pub marked_at : (h : ℕ) → drop n (set t (n + h) (get_or t (n + h) 0 + 2)) ≡ map (leaf (At h) (requested (drop n t))) (range 0 n)
+  pub marked_at : (h : ℕ) → set xs h (get_or xs h 0 + 2) ≡ map (leaf (Some h) (requested xs)) (range 0 (length xs))
   unfolding head_at
   marked_at h =
-      let v = get_or t (n + h) 0 + 2 in
-      leaves (leaf (At h) (requested (drop n t))) n (set t (n + h) v) (length-set t (n + h) v ∙ long)
+      let v = get_or xs h 0 + 2 in
+      rw (length-set xs h v) at
+      (leaves (leaf (Some h) (requested xs)) (set xs h v)
       (λ j l.
+      let here : j < length xs = omega (arith, length-set xs h v) in
       Lists.split (eqb h j)
       (λ q.
-      let same : n + j ≡ n + h = omega (arith, eqb-true h j q) in
-      rw same
-      (get_or-set_same t (n + h) v 0 (omega arith)
-      ∙ omega (arith, leaf_value (At h) j l, ap bit q, ap (λ (i : ℕ). get_or t i 0) same)))
+      let same : j ≡ h = omega (arith, eqb-true h j q) in
+      ap (λ (i : ℕ). get_or (set xs h v) i 0) same
+      ∙ get_or-set_same xs h v 0 (omega arith)
+      ∙ omega (arith, leaf_value (Some h) j here, ap bit q, ap (λ (i : ℕ). get_or xs i 0) same))
       (λ q.
-      get_or-set_other t (n + h) (n + j) v 0 (λ p. eqb-false h j q (omega arith))
-      ∙ omega (arith, leaf_value (At h) j l, ap bit q)))
+      get_or-set_other xs h j v 0 (λ p. eqb-false h j q (omega arith))
+      ∙ omega (arith, leaf_value (Some h) j here, ap bit q))))
+
+-- the stations' nodes are the second half of the buffer
+pub written : (f : ℕ → ℕ) (n : ℕ) (t xs : List ℕ) → length t ≡ 2 * n → xs ≡ map f (range 0 n)
+    → drop n (put_mid n (length t - n) t xs) ≡ map f (range 0 n)
+written f n t xs long is =
+    let none : drop (length t - n) (drop n t) ≡ [] = drop_all (length t - n) (drop n t) (omega (arith, length-drop n t)) in
+    drop_at (take n t) (xs ++ drop (length t - n) (drop n t)) n (length-take-le n t (omega arith))
+    ∙ ap (λ (ys : List ℕ). xs ++ ys) none
+    ∙ append-nil xs
+    ∙ is
 
 -- a station's byte is a node's value
 pub leaves_low : (n : ℕ) (h : Head) (asks : ℕ → Bool) (t : List ℕ) → drop n t ≡ map (leaf h asks) (range 0 n) → ValuesFrom n n t
@@ -91,33 +94,6 @@ join_below l r = value_below _ _
 -- what holds from `from` up to u, and of u, holds up to u + 1
 more : (P : ℕ → Type 0) (from u : ℕ) → ((x : ℕ) → from ≤ x → x < u → P x) → P u → (x : ℕ) → from ≤ x → x < u + 1 → P x
 more P from u each here x h k = below_more (λ y. from ≤ y → P y) u (λ y k h. each y h k) (λ h. here) x k h
-
--- one more pair is read
-pub pairs_more : (from u : ℕ) (t pairs : List ℕ) → from ≤ u → u - from < max_pairs → Pairs from u t pairs
-    → Pairs from (u + 1) t (set pairs (u - from) (get_or t (2 * u) 0 + get_or t (2 * u + 1) 0 * 256))
-pairs_more from u t pairs h l p =
-    let v = get_or t (2 * u) 0 + get_or t (2 * u + 1) 0 * 256 in
-    record {
-      room = length-set pairs (u - from) v ∙ p.room;
-      each = more _ from u
-          (λ x h k. get_or-set_other pairs (u - from) (x - from) v 0 (λ e. omega arith) ∙ p.each x h k)
-          (get_or-set_same pairs (u - from) v 0 (omega (arith, p.room)));
-    }
-
--- a pair of two values, told apart again
-pub record Unpacked (left right pair : ℕ) : Type 0 where
-  pub left_is : pair % 256 ≡ left
-  pub right_is : pair / 256 ≡ right
-  pub left_low : left < 4
-  pub right_low : right < 4
-
-pub unpacked : {from to : ℕ} {t pairs : List ℕ} → Pairs from to t pairs → ValuesFrom to to t → to ≤ 2 * from → (u : ℕ) → from ≤ u → u < to
-    → Unpacked (get_or t (2 * u) 0) (get_or t (2 * u + 1) 0) (get_or pairs (u - from) 0)
-unpacked p values l u h k =
-    let left = values (2 * u) (omega arith) (omega arith) in
-    let right = values (2 * u + 1) (omega arith) (omega arith) in
-    let is = p.each u h k in
-    record { left_is = omega arith; right_is = omega arith; left_low = left; right_low = right }
 
 -- a level begins with none of its nodes joined
 pub level_none : (from : ℕ) (t : List ℕ) → Level from from t t

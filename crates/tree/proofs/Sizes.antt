@@ -1,4 +1,4 @@
--- The tests of questions 2 and 7.
+-- The test of question 2.
 -- Assumes nothing.
 use Prim.Native.Nat.{ℕ, zero, suc, ◌+◌, ◌*◌, ◌/◌, ◌%◌, ◌^◌, ◌≤◌, ◌<◌}
 use mathlib.Core.Path.{◌≡◌, sym, ap, ◌∙◌}
@@ -63,14 +63,3 @@ power_test n = Lists.both_ways (leb 2 n && eqb (ones n) 1) (member n (map (λ k.
         let r = Lists.table_entry (λ k. 2 ^ k) n 1 n t in
         let large : 2 ≤ n = omega (arith, r.3, pow_mono r.1) in
         rw (le-leb 2 n large, eq-eqb (ones n) 1 (ap ones r.3 ∙ power_ones r.0))
-
--- 7: twice the stations
-pub double_test : (n size : ℕ) → (eqb (size / 2) n && eqb (size % 2) 0) ≡ eqb size (2 * n)
-double_test n size =
-    Lists.both_ways (eqb (size / 2) n && eqb (size % 2) 0) (eqb size (2 * n))
-    (λ t.
-    let b = Lists.both (eqb (size / 2) n) (eqb (size % 2) 0) t in
-    eq-eqb size (2 * n) (omega (arith, eqb-true (size / 2) n b.0, eqb-true (size % 2) 0 b.1)))
-    (λ t.
-    let e : size ≡ 2 * n = eqb-true size (2 * n) t in
-    rw (eq-eqb (size / 2) n (omega arith), eq-eqb (size % 2) 0 (omega arith)))

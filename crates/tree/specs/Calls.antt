@@ -2,13 +2,12 @@
 -- the round-robin rule's, as in arbiter's Cycle.
 -- Assumes nothing.
 use Rattle.std.specs.Prelude.{ℕ, List, length}
-use Rattle.rules.specs.declared.Head.{Head}
+use Rattle.rules.specs.Head.{Head}
 use Rattle.rules.specs.Tree as Rule
 use Rattle.arbiter.specs.declared.Answer.{Answer}
 use Rattle.arbiter.specs.declared.State.{State}
-use Rattle.arbiter.specs.declared.question.Verdict.{Verdict}
 use Rattle.arbiter.specs.Questions as Questions
-use Rattle.arbiter.specs.Questions.{◌then◌}
+use Rattle.arbiter.specs.Questions.{Verdict, ◌then◌}
 use Rattle.arbiter.specs.Answers.{refused, if_passed, opened}
 use Rattle.arbiter.specs.Cycle.{asking, answer, granting}
 pub mod Laws
@@ -40,11 +39,10 @@ pub record Outcome : Type 0 where
 -- head before the cycle"; a refusal "writes nothing"
 unfoldable pub cycle : State → List ℕ → List ℕ → List ℕ → Outcome
 cycle s requests grants nodes =
-    let v = questions s.width s.picks s.head requests (length grants) (length nodes) in
-    if_passed v
+    if_passed (questions s.width s.picks s.head requests (length grants) (length nodes))
     (record {
       answer = answer s requests;
       grants = granting s requests;
       nodes = Rule.nodes s.width s.head (asking s requests);
     })
-    (record { answer = refused v s; grants = grants; nodes = nodes })
+    (λ refusal. record { answer = refused refusal s; grants = grants; nodes = nodes })

@@ -1,7 +1,7 @@
 -- What the steps of the tree's cycle promise. The promise of its calls is Calls.
 -- Assumes nothing.
 use Rattle.std.specs.Prelude.{ℕ, ◌+◌, ◌-◌, ◌*◌, ◌≤◌, ◌<◌, ◌≡◌, List, length, get_or, drop}
-use Rattle.rules.specs.declared.Head.{Head}
+use Rattle.rules.specs.Head.{Head}
 use Rattle.rules.specs.Tree as Rule
 use Rattle.arbiter.specs.declared.Decision.{Decision}
 use Rattle.arbiter.specs.Decisions.{deciding}

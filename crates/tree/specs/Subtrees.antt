@@ -2,8 +2,8 @@
 -- stations from a on; `asks w` says that station w asks.
 -- Assumes nothing.
 use Rattle.std.specs.Prelude.{ℕ, ◌+◌, ◌-◌, Bool, true, false, cond, ◌&&◌, List, [], ◌∷◌, ltb, leb}
-use Rattle.rules.specs.declared.Head.{Head}
-use Rattle.rules.specs.declared.Head.TheVariants.{None, At}
+use Rattle.rules.specs.Head.{Head}
+use Rattle.std.specs.Prelude.{None, Some}
 use Rattle.rules.specs.Lists.{range, filter}
 use Rattle.rules.specs.Tree.{value}
 pub mod Laws
@@ -11,12 +11,12 @@ pub mod Laws
 -- S1: "the head is in it"
 abbrev pub inside : Head → ℕ → ℕ → Bool
 inside None a c = false
-inside (At h) a c = leb a h && ltb h (a + c)
+inside (Some h) a c = leb a h && ltb h (a + c)
 
 -- the first of its stations that counts: "only stations at or after the head if the head is inside"
 abbrev pub from : Head → ℕ → ℕ → ℕ
 from None a c = a
-from (At h) a c = cond (inside (At h) a c) h a
+from (Some h) a c = cond (inside (Some h) a c) h a
 
 -- there is one
 abbrev pub some : List ℕ → Bool

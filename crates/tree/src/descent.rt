@@ -3,21 +3,25 @@ ghost use Rattle.std.specs.Prelude.{◌≡◌, ◌+◌, ◌*◌, ◌≤◌, ◌<
 ghost use Rattle.rules.specs.Tree as Rule;
 ghost use Rattle.tree.specs.Steps.{Values};
 
-// The station that the descent reaches.
-pub(crate) fn reached(width: usize, nodes: &[u8]) -> usize
-    requires le_width { 1 ≤ width }
-    requires nodes_len { length nodes.now ≡ 2 * width }
-    requires values { Values width nodes.now }
-    ensures { result ≡ Rule.reached width nodes.now }
-{
-    let mut u: usize = 1;
-    while u < width {
-        u = child(nodes, u);
+use crate::nodes::Nodes;
+
+impl Nodes<'_> {
+    // The station that the descent reaches. The next node is what the choice says, so no range gives it.
+    #[tactic(auto, using(rules::proofs::Tree::Laws::way_goes_on, rules::proofs::Tree::Laws::way_ends, rules::proofs::Tree::Laws::child_low))]
+    pub(crate) fn reached(&self) -> usize
+        requires { Values self.now.width self.now.bytes.now }
+        ensures { result ≡ Rule.reached self.now.width self.now.bytes.now }
+    {
+        let mut u: usize = 1;
+        while u < self.width {
+            u = child(self.bytes, u);
+        }
+        u - self.width
     }
-    u - width
 }
 
 // The child that node u chooses.
+#[tactic(auto, unfolding(rules::specs::Tree::child))]
 fn child(nodes: &[u8], u: usize) -> usize
     requires u_in_bounds { 2 * u + 1 < length nodes.now }
     requires u_bound { get_or nodes.now (2 * u) 0 < 4 }
@@ -27,22 +31,19 @@ fn child(nodes: &[u8], u: usize) -> usize
     let left = 2 * u;
     let right = 2 * u + 1;
     if goes_right(nodes[left], nodes[right]) {
-        return right;
+        right
+    } else {
+        left
     }
-    left
 }
 
 // The choice at a node whose children have these values, by the number of the pair, 4 × left + right: right where the left is 0,
 // where the right is 3, and for the pair of 2 and 1.
+#[tactic(auto, using(rules::proofs::Tree::Laws::right_pair))]
 fn goes_right(left: u8, right: u8) -> bool
     requires left_bound { left < 4 }
     requires right_bound { right < 4 }
     ensures { result ≡ Rule.goes_right left right }
 {
-    match left * 4 + right {
-        0..=3 => true,
-        7 | 11 | 15 => true,
-        9 => true,
-        _ => false,
-    }
+    matches!(left * 4 + right, 0..=3 | 7 | 9 | 11 | 15)
 }

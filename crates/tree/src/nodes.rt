@@ -1,6 +1,6 @@
 // The node buffer: byte 0 is 0, node 1 is the root, node u has the children 2u and 2u + 1, and station i is node width + i. A
 // node's value is 2 × S1 + S0: S1 says that the head is below it, S0 that a station below it asks.
-ghost use Rattle.std.specs.Prelude.{◌≡◌, map, ◌+◌, ◌-◌, ◌*◌, ◌/◌, ◌≤◌, ◌<◌, min, length, drop};
+ghost use Rattle.std.specs.Prelude.{◌≡◌, map, ◌+◌, ◌-◌, ◌*◌, ◌≤◌, ◌<◌, length, drop};
 ghost use Rattle.rules.specs.Lists.{range};
 ghost use Rattle.rules.specs.RoundRobin.{start};
 ghost use Rattle.rules.specs.Tree as Rule;
@@ -16,92 +16,82 @@ const MAX_PAIRS: usize = 128;
 // No more nodes than these are joined one by one.
 const FEW_NODES: usize = 16;
 
-// Writes the tree of these requests and the head.
-pub(crate) fn build(width: usize, head: Head, requests: &[u8], nodes: &mut [u8])
-    requires le_width { 1 ≤ width }
-    requires head_bound { start head < width }
-    requires requests_len { length requests.now ≡ width }
+// A node buffer for `width` stations.
+#[derive(Drop)]
+pub(crate) struct Nodes<'a> {
+    pub(crate) width: usize,
+    pub(crate) bytes: &'a mut [u8],
+    ghost some: { 1 ≤ width },
+    ghost long: { length bytes.now ≡ 2 * width },
+}
+
+impl Nodes<'_> {
+    // Writes the tree of these requests and the head.
+    #[tactic(auto, using(crate::proofs::Buffer::leaves_low, crate::proofs::Buffer::written), unfolding(rules::specs::Tree::nodes))]
+    pub(crate) fn build(&mut self, head: Head, requests: &[u8])
+        requires head_bound { start head < self.old.width }
+        requires requests_len { length requests.now ≡ self.old.width }
+        requires bits { Bits requests.now }
+        ensures same_width { self.new.width ≡ self.old.width }
+        ensures same_reference { self.new.bytes.ghost_name ≡ self.old.bytes.ghost_name }
+        ensures bytes_after { self.new.bytes.now ≡ Rule.nodes self.old.width head (requested requests.now) }
+    {
+        write_stations(head, requests, &mut self.bytes[self.width..]);
+        self.join_all();
+    }
+
+    // Joins the nodes from the last that is no station's up to the root, and sets byte 0.
+    #[tactic(auto, using(crate::proofs::Buffer::joined_all))]
+    fn join_all(&mut self)
+        requires values_from { Steps.ValuesFrom self.old.width self.old.width self.old.bytes.now }
+        ensures same_width { self.new.width ≡ self.old.width }
+        ensures same_reference { self.new.bytes.ghost_name ≡ self.old.bytes.ghost_name }
+        ensures bytes_after { self.new.bytes.now ≡ Rule.joined (self.old.width - 1) (drop self.old.width self.old.bytes.now) }
+    {
+        let low = self.join_levels();
+        for u in (1..low).rev() {
+            self.bytes[u] = join(self.bytes[2 * u], self.bytes[2 * u + 1]);
+        }
+        self.bytes[0] = 0;
+    }
+
+    // Joins level after level, or parts of them, while more than a few nodes are left, and says from which node on the buffer is done.
+    // The children are read before any of the nodes is written, so that the compiler can join many at once. A small tree makes no array.
+    // How many are joined at once goes by how many are left, so no range gives it.
+    fn join_levels(&mut self) -> usize
+        requires values_from { Steps.ValuesFrom self.old.width self.old.width self.old.bytes.now }
+        ensures same_width { self.new.width ≡ self.old.width }
+        ensures same_reference { self.new.bytes.ghost_name ≡ self.old.bytes.ghost_name }
+        ensures done { Steps.DoneFrom result self.old.width (Rule.joined (self.old.width - 1) (drop self.old.width self.old.bytes.now)) self.new.bytes.now }
+    {
+        if self.width <= FEW_NODES {
+            return self.width;
+        }
+        let mut pairs = [0u16; MAX_PAIRS];
+        let mut low = self.width;
+        while FEW_NODES < low {
+            let from = low - (low / 2).min(MAX_PAIRS);
+            let nodes = &mut *self.bytes;
+            read_pairs(from, low, nodes, &mut pairs);
+            join_pairs(from, low, &pairs, nodes);
+            low = from;
+        }
+        low
+    }
+}
+
+// Writes the stations' nodes: each its request as S0, and the head's S1.
+#[tactic(auto, using(rules::proofs::RoundRobin::Laws::start_at, crate::proofs::Buffer::marked_none, crate::proofs::Buffer::marked_at))]
+fn write_stations(head: Head, requests: &[u8], stations: &mut [u8])
+    requires head_bound { start head < length requests.now }
     requires bits { Bits requests.now }
-    requires nodes_len { length nodes.old ≡ 2 * width }
-    ensures { nodes.new ≡ Rule.nodes width head (requested requests.now) }
+    requires stations_len { length stations.old ≡ length requests.now }
+    ensures { stations.new ≡ map (Rule.leaf head (requested requests.now)) (range 0 (length requests.now)) }
 {
-    write_requests(width, requests, nodes);
-    mark_head(width, head, nodes);
-    join_all(width, nodes);
-}
-
-// Writes the stations' nodes without the head: each its request.
-fn write_requests(width: usize, requests: &[u8], nodes: &mut [u8])
-    requires requests_len { length requests.now ≡ width }
-    requires nodes_len { length nodes.old ≡ 2 * width }
-    ensures { drop width nodes.new ≡ requests.now }
-{
-    let mut i: usize = 0;
-    while i < width {
-        nodes[width + i] = requests[i];
-        i += 1;
+    stations.copy_from_slice(requests);
+    if let Some(h) = head {
+        stations[h] += 2;
     }
-}
-
-// Adds S1 to the head's node. The stations' nodes hold their requests before.
-fn mark_head(width: usize, head: Head, nodes: &mut [u8])
-    requires head_bound { start head < width }
-    requires nodes_len { length nodes.old ≡ 2 * width }
-    requires bits { Bits (drop width nodes.old) }
-    ensures { drop width nodes.new ≡ map (Rule.leaf head (requested (drop width nodes.old))) (range 0 width) }
-{
-    let Head::At(h) = head else {
-        return;
-    };
-    nodes[width + h] += 2;
-}
-
-// Joins the nodes from the last that is no station's up to the root, and sets byte 0.
-fn join_all(width: usize, nodes: &mut [u8])
-    requires le_width { 1 ≤ width }
-    requires nodes_len { length nodes.old ≡ 2 * width }
-    requires values_from { Steps.ValuesFrom width width nodes.old }
-    ensures { nodes.new ≡ Rule.joined (width - 1) (drop width nodes.old) }
-{
-    let mut u = join_levels(width, nodes);
-    while 1 < u {
-        u -= 1;
-        nodes[u] = join(nodes[2 * u], nodes[2 * u + 1]);
-    }
-    nodes[0] = 0;
-}
-
-// Joins level after level, or parts of them, while more than a few nodes are left, and says from which node on the buffer is done.
-// The children are read before any of the nodes is written, so that the compiler can join many at once. A small tree makes no array.
-fn join_levels(width: usize, nodes: &mut [u8]) -> usize
-    requires le_width { 1 ≤ width }
-    requires nodes_len { length nodes.old ≡ 2 * width }
-    requires values_from { Steps.ValuesFrom width width nodes.old }
-    ensures { Steps.DoneFrom result width (Rule.joined (width - 1) (drop width nodes.old)) nodes.new }
-{
-    if width <= FEW_NODES {
-        return width;
-    }
-    let mut pairs = [0u16; MAX_PAIRS];
-    let mut low = width;
-    while FEW_NODES < low {
-        let from = low - pairs_below(low);
-        read_pairs(from, low, nodes, &mut pairs);
-        join_pairs(from, low, &pairs, nodes);
-        low = from;
-    }
-    low
-}
-
-// How many of the nodes below `low` are joined next: half of them, which have no child among themselves, but not too many.
-fn pairs_below(low: usize) -> usize
-    ensures { result ≡ min (low / 2) Steps.max_pairs }
-{
-    let half = low / 2;
-    if half < MAX_PAIRS {
-        return half;
-    }
-    MAX_PAIRS
 }
 
 // Reads the children of the nodes from `from` up to `to`, a pair for each: left + 256 × right.
@@ -111,10 +101,8 @@ fn read_pairs(from: usize, to: usize, nodes: &[u8], pairs: &mut [u16; MAX_PAIRS]
     requires pairs_len { length pairs.old ≡ Steps.max_pairs }
     ensures { Steps.Pairs from to nodes.now pairs.new }
 {
-    let mut u = from;
-    while u < to {
-        pairs[u - from] = (nodes[2 * u] as u16) + (nodes[2 * u + 1] as u16) * 256;
-        u += 1;
+    for u in from..to {
+        pairs[u - from] = u16::from_le_bytes([nodes[2 * u], nodes[2 * u + 1]]);
     }
 }
 
@@ -128,11 +116,9 @@ fn join_pairs(from: usize, to: usize, pairs: &[u16; MAX_PAIRS], nodes: &mut [u8]
     requires pairs { Steps.Pairs from to nodes.old pairs.now }
     ensures { Steps.Level from to nodes.old nodes.new }
 {
-    let mut u = from;
-    while u < to {
-        let pair = pairs[u - from];
-        nodes[u] = join((pair % 256) as u8, (pair / 256) as u8);
-        u += 1;
+    for u in from..to {
+        let [left, right] = pairs[u - from].to_le_bytes();
+        nodes[u] = join(left, right);
     }
 }
 
@@ -147,6 +133,7 @@ fn join(left: u8, right: u8) -> u8
 }
 
 // The S0 of a value.
+#[tactic(auto, unfolding(rules::specs::Tree::s0))]
 pub(crate) fn s0(value: u8) -> bool
     ensures { result ≡ Rule.s0 value }
 {

@@ -3,19 +3,16 @@ ghost use Rattle.std.specs.Prelude.{◌≡◌};
 ghost use Rattle.arbiter.specs.Questions as Questions;
 ghost use Rattle.tree.specs.Calls as Calls;
 
-use arbiter::question::Verdict;
-use arbiter::{question, refusal};
+use arbiter::question::{self, Verdict};
+use arbiter::refusal::Refusal;
 use rules::Head;
 
 // Question 2: is the width a power of two, at least 2?
+#[tactic(auto, using(crate::proofs::Sizes::power_test))]
 fn tree_width(width: usize) -> Verdict
     ensures { result ≡ Questions.tree_width width }
 {
-    question::refuse_unless(
-        (2 <= width) & (usize::count_ones(width) == 1),
-        refusal::TREE_WIDTH,
-        0,
-    )
+    question::refuse_unless((2 <= width) & width.is_power_of_two(), Refusal::TreeWidth)
 }
 
 // Question 7: is the node buffer twice as long as there are stations?
@@ -24,8 +21,7 @@ fn nodes_length(width: usize, length: usize) -> Verdict
 {
     question::refuse_unless(
         (length / 2 == width) & (length % 2 == 0),
-        refusal::NODES_LENGTH,
-        0,
+        Refusal::NodesLength,
     )
 }
 
@@ -33,11 +29,10 @@ fn nodes_length(width: usize, length: usize) -> Verdict
 pub(crate) fn state(width: usize, picks: usize, head: Head) -> Verdict
     ensures { result ≡ Calls.state width picks head }
 {
-    let by_width = question::width(width);
-    let by_power = tree_width(width);
-    let by_picks = question::one_pick(picks);
-    let by_head = question::head(width, head);
-    by_width.then(by_power).then(by_picks).then(by_head)
+    question::width(width)?;
+    tree_width(width)?;
+    question::one_pick(picks)?;
+    question::head(width, head)
 }
 
 // Questions 1 to 8 of a cycle whose grant and node buffers have these lengths.
@@ -51,11 +46,10 @@ pub(crate) fn cycle(
 ) -> Verdict
     ensures { result ≡ Calls.questions width picks head requests.now grants nodes }
 {
-    let by_state = state(width, picks, head);
-    let by_requests = question::read_length(width, requests.len());
-    let by_grants = question::write_length(width, grants);
-    let by_nodes = nodes_length(width, nodes);
-    let unread = by_state.then(by_requests).then(by_grants).then(by_nodes);
-    let reading = question::read(unread, requests);
-    reading.verdict
+    state(width, picks, head)?;
+    question::read_length(width, requests.len())?;
+    question::write_length(width, grants)?;
+    nodes_length(width, nodes)?;
+    question::read(requests)?;
+    Ok(())
 }

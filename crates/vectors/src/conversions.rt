@@ -1,152 +1,189 @@
 // The one-hot image and the snapshot, each way, for every head and none of several widths; the short form of the snapshot, which is
 // read alone; and snapshots of both forms that are written down.
-ghost use Rattle.std.specs.Prelude.{◌≡◌, ◌≤◌, length};
-
-use crate::engine::{Lengths, WIDEST};
-use crate::report::Outcome;
-use crate::{compare, engine, small};
+use crate::engine::WIDEST;
+use crate::{compare, small};
 use arbiter::State;
-use rules::Head;
+use one_hot::OneHot;
 use snapshot::Snapshot;
 
-const WIDTHS: [usize; 16] = [
+// What a state is converted to.
+#[derive(Clone, Copy, Debug, PartialEq, Eq)]
+pub enum Form {
+    OneHot,
+    Snapshot,
+    ShortSnapshot,
+}
+
+// The widths.
+static WIDTHS: [usize; 16] = [
     1, 2, 3, 8, 9, 64, 127, 128, 255, 256, 257, 511, 512, 513, 1023, 1024,
 ];
 
 // 1,025 heads, 16 widths.
 pub(crate) const CASES: usize = 1025 * 16;
 
-// A state with as many picks as it may have, as an image if `form` is 0, as a snapshot if it is 1, and if it is 2 as a short one,
-// which holds a width of 256 at most.
-pub(crate) fn case(form: usize, i: usize) -> Outcome {
+// The case of a number: a state with as many picks as it may have. As a short snapshot it has a width of 256 at most.
+pub(crate) fn case(form: Form, i: usize) -> Option<bool> {
     let width = WIDTHS[i / 1025 % 16];
-    let h = small::head(i % 1025);
-    if (width < i % 1025) | ((form == 2) & (256 < width)) {
-        return Outcome::Skipped;
+    let head = small::head(i % 1025);
+    if !small::is_within(head, width) || (form == Form::ShortSnapshot && 256 < width) {
+        return None;
     }
-    let s = State {
-        width,
-        picks: engine::lesser(width, 8),
-        head: h,
-    };
-    Outcome::Ran(converted(form, s))
+    let s = compare::state(width, width.min(8), head);
+    Some(match form {
+        Form::OneHot => images(s),
+        Form::Snapshot => snapshots(s, &snapshot(s)),
+        Form::ShortSnapshot => compare::serves(Snapshot::read(&short(s)), 0, s),
+    })
 }
 
-fn converted(form: usize, s: State) -> bool {
-    match form {
-        0 => converts(s, 0, &image(s), s.width),
-        1 => converts(s, 2, &snapshot(s), 6),
-        _ => compare::answer(Snapshot::read(&short(s)), 0, 0, 0, s),
+// Whether a state's image is zeros but for the head's byte, and is read into a state with another head.
+fn images(s: State) -> bool {
+    let width = s.width.min(WIDEST);
+    let mut known = [0u8; WIDEST];
+    if let Some(byte) = s.head.and_then(|station| known.get_mut(station)) {
+        *byte = 1;
     }
+    let known = &known[..width];
+    let mut image = [7u8; WIDEST];
+    let image = &mut image[..width];
+    let other = compare::state(s.width, s.picks, Some(0));
+    compare::serves(OneHot(s).write(image), 0, s)
+        && compare::serves(OneHot(other).read(known), 0, s)
+        && &*image == known
 }
 
-// Zeros but for the head's byte.
-fn image(s: State) -> [u8; WIDEST] {
-    let h = s.head;
-    let mut image = [0u8; WIDEST];
-    image[compare::station(h) % WIDEST] = compare::headed(h) as u8;
-    image
+// Whether a state is written as these bytes, and these are read as the state.
+fn snapshots(s: State, known: &[u8; 6]) -> bool {
+    let mut written = [7u8; 6];
+    compare::serves(Snapshot(s).write(&mut written), 0, s)
+        && compare::serves(Snapshot::read(known), 0, s)
+        && written == *known
 }
 
 // The width less one, low byte first, the picks, the head or 0, low byte first, and 1 if there is a head.
-fn snapshot(s: State) -> [u8; WIDEST] {
-    let h = s.head;
-    let station = compare::station(h);
-    let last = small::last(s.width);
-    let mut snapshot = [0u8; WIDEST];
-    snapshot[0] = (last % 256) as u8;
-    snapshot[1] = (last / 256 % 256) as u8;
-    snapshot[2] = (s.picks % 256) as u8;
-    snapshot[3] = (station % 256) as u8;
-    snapshot[4] = (station / 256 % 256) as u8;
-    snapshot[5] = compare::headed(h) as u8;
-    snapshot
+fn snapshot(s: State) -> [u8; 6] {
+    let head = s.head;
+    let station = head.unwrap_or(0);
+    let last = s.width.saturating_sub(1);
+    [
+        byte(last),
+        byte(last / 256),
+        byte(s.picks),
+        byte(station),
+        byte(station / 256),
+        u8::from(head.is_some()),
+    ]
 }
 
 // The same in four bytes.
 fn short(s: State) -> [u8; 4] {
-    let h = s.head;
+    let head = s.head;
     [
-        (small::last(s.width) % 256) as u8,
-        (s.picks % 256) as u8,
-        (compare::station(h) % 256) as u8,
-        compare::headed(h) as u8,
+        byte(s.width.saturating_sub(1)),
+        byte(s.picks),
+        byte(head.unwrap_or(0)),
+        u8::from(head.is_some()),
     ]
 }
 
-// Whether a state is written as the first of these bytes, and these are read as the state. An image is read into a state with
-// another head. The calls for a snapshot are 2 after those for an image.
-fn converts(s: State, form: usize, known: &[u8; WIDEST], length: usize) -> bool
-    requires { form ≤ 2 }
-{
-    let lengths = Lengths {
-        read: length,
-        write: length,
-        nodes: 0,
-    };
-    let other = State {
-        width: s.width,
-        picks: s.picks,
-        head: Head::At(0),
-    };
-    let mut written = [7u8; WIDEST];
-    let mut nodes = [7u8; 1];
-    let write = engine::WRITE_ONE_HOT + form;
-    let read = engine::READ_ONE_HOT + form;
-    let a = engine::call(write, 0, s, lengths, known, &mut written, &mut nodes, 0);
-    let b = engine::call(read, 0, other, lengths, known, &mut written, &mut nodes, 0);
-    let same = compare::answer(a, 0, 0, 0, s) & compare::answer(b, 0, 0, 0, s);
-    same & begins(&written, known, length)
+// The low byte of a number. The cast loses nothing, and there is no `From` for it.
+pub(crate) fn byte(n: usize) -> u8 {
+    (n % 256) as u8
 }
 
-// Whether a buffer begins with the first of these bytes.
-fn begins(buffer: &[u8; WIDEST], known: &[u8], length: usize) -> bool {
-    let end = engine::lesser(length, known.len());
-    compare::begins(buffer, &known[0..end])
+// A snapshot that is written down, and the state that it holds.
+#[derive(Clone, Copy)]
+struct Saved<const N: usize> {
+    bytes: [u8; N],
+    width: usize,
+    picks: usize,
+    head: Option<usize>,
 }
 
-// Snapshots that are written down: 5 of four bytes, as they were saved when there was no other form, and 5 of six.
+impl<const N: usize> Saved<N> {
+    // The state.
+    fn state(&self) -> State {
+        compare::state(self.width, self.picks, self.head)
+    }
+}
+
+// Four bytes, as they were saved when there was no other form.
+static SHORT: [Saved<4>; 5] = [
+    Saved {
+        bytes: [3, 2, 1, 1],
+        width: 4,
+        picks: 2,
+        head: Some(1),
+    },
+    Saved {
+        bytes: [0, 1, 0, 0],
+        width: 1,
+        picks: 1,
+        head: None,
+    },
+    Saved {
+        bytes: [15, 8, 0, 1],
+        width: 16,
+        picks: 8,
+        head: Some(0),
+    },
+    Saved {
+        bytes: [254, 1, 0, 0],
+        width: 255,
+        picks: 1,
+        head: None,
+    },
+    Saved {
+        bytes: [255, 8, 255, 1],
+        width: 256,
+        picks: 8,
+        head: Some(255),
+    },
+];
+
+// Six bytes.
+static LONG: [Saved<6>; 5] = [
+    Saved {
+        bytes: [3, 0, 2, 1, 0, 1],
+        width: 4,
+        picks: 2,
+        head: Some(1),
+    },
+    Saved {
+        bytes: [0, 1, 1, 0, 1, 1],
+        width: 257,
+        picks: 1,
+        head: Some(256),
+    },
+    Saved {
+        bytes: [255, 1, 8, 0, 0, 0],
+        width: 512,
+        picks: 8,
+        head: None,
+    },
+    Saved {
+        bytes: [231, 3, 3, 88, 2, 1],
+        width: 1000,
+        picks: 3,
+        head: Some(600),
+    },
+    Saved {
+        bytes: [255, 3, 8, 255, 3, 1],
+        width: 1024,
+        picks: 8,
+        head: Some(1023),
+    },
+];
+
+// The snapshots of four bytes, and then those of six.
 pub(crate) const KNOWN: usize = 10;
 
-// The bytes of one, with zeros after the four.
-fn known_bytes(i: usize) -> [u8; 6]
-    ensures { 6 ≡ length result }
-{
-    match i {
-        0 => [3, 2, 1, 1, 0, 0],
-        1 => [0, 1, 0, 0, 0, 0],
-        2 => [15, 8, 0, 1, 0, 0],
-        3 => [254, 1, 0, 0, 0, 0],
-        4 => [255, 8, 255, 1, 0, 0],
-        5 => [3, 0, 2, 1, 0, 1],
-        6 => [0, 1, 1, 0, 1, 1],
-        7 => [255, 1, 8, 0, 0, 0],
-        8 => [231, 3, 3, 88, 2, 1],
-        _ => [255, 3, 8, 255, 3, 1],
-    }
-}
-
-// The states of these, the heads by number, 0 for none.
-const KNOWN_WIDTHS: [usize; 10] = [4, 1, 16, 255, 256, 4, 257, 512, 1000, 1024];
-
-const KNOWN_PICKS: [usize; 10] = [2, 1, 8, 1, 8, 2, 1, 8, 3, 8];
-
-const KNOWN_HEADS: [usize; 10] = [2, 0, 1, 0, 256, 2, 257, 0, 601, 1024];
-
 // Whether one is read as its state, and six bytes are what the state is written as.
-pub(crate) fn known(i: usize) -> Outcome {
-    let row = i % 10;
-    let s = State {
-        width: KNOWN_WIDTHS[row],
-        picks: KNOWN_PICKS[row],
-        head: small::head(KNOWN_HEADS[row]),
-    };
-    let bytes = known_bytes(row);
-    if row < 5 {
-        return Outcome::Ran(compare::answer(Snapshot::read(&bytes[0..4]), 0, 0, 0, s));
+pub(crate) fn known(i: usize) -> Option<bool> {
+    if let Some(saved) = SHORT.get(i) {
+        return Some(compare::serves(Snapshot::read(&saved.bytes), 0, saved.state()));
     }
-    let mut written = [7u8; 6];
-    let a = Snapshot(s).write(&mut written);
-    let same = compare::answer(a, 0, 0, 0, s) & compare::begins(&written, &bytes);
-    Outcome::Ran(same & compare::answer(Snapshot::read(&bytes), 0, 0, 0, s))
+    let saved = LONG.get(i.checked_sub(5)?)?;
+    Some(snapshots(saved.state(), &saved.bytes))
 }

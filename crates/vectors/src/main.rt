@@ -9,7 +9,6 @@ mod engine;
 mod known;
 mod model;
 mod packed;
-mod pieces;
 mod program;
 mod refusals;
 mod report;
@@ -21,98 +20,168 @@ mod tables;
 mod texts;
 mod walk;
 
+use conversions::Form;
+use engine::Engine;
+use program::Program;
+use refusals::Call;
+use runs::Run;
 use std::io;
-use walk::{Group, lines};
+use tables::{Table, Walk};
+use walk::{items, numbers};
 
 fn main(rt: HostRuntime) -> io::Result<()> {
     documents(&rt)?;
-    lines(
-        &rt,
-        b"scan, every input for widths 1 to 8|tree, every input for widths 2, 4 and 8|\
-        thermometer, every input for widths 1 to 8|Kogge-Stone, every input for widths 1 to 8|\
-        bus, every input for widths 1 to 8|",
-        Group::Small,
-        small::CASES,
-    )?;
-    lines(
-        &rt,
-        b"scan, runs on widths 1 to 1024|tree, runs on widths 2 to 1024|\
-        thermometer, runs on widths 1 to 1024|Kogge-Stone, runs on widths 1 to 1024|\
-        bus, runs on widths 1 to 1024|packed scan, runs on widths 1 to 1024|",
-        Group::Run,
-        runs::CASES,
-    )?;
-    lines(
-        &rt,
-        b"packed scan, known cycles|packed scan, every input for widths 1 to 12|",
-        Group::Packed,
-        packed::CASES,
-    )?;
-    lines(
-        &rt,
-        b"adder, all pairs of bytes for 0 to 9 picks|",
-        Group::Sum,
-        sums::CASES,
-    )?;
-    lines(
-        &rt,
-        b"adder, codes of counts and counts of bytes|",
-        Group::Code,
-        sums::CODES,
-    )?;
-    lines(
-        &rt,
-        b"running codes, examples of 001|running codes, every input for widths 1 to 8|",
-        Group::Running,
-        running::CASES,
-    )?;
-    lines(
-        &rt,
-        b"opening without a head, refusals|opening with a head, refusals|cycle, refusals|\
-        reading an image, refusals|writing an image, refusals|\
-        reading a snapshot, refusals|writing a snapshot, refusals|adder, refusals|\
-        reading a short snapshot, refusals|",
-        Group::Refusal,
-        refusals::CASES,
-    )?;
-    lines(
-        &rt,
-        b"one-hot image, each way|snapshot, each way|short snapshot, read|",
-        Group::Conversion,
-        conversions::CASES,
-    )?;
-    lines(
-        &rt,
-        b"snapshots of four and six bytes, written down|",
-        Group::Snapshot,
-        conversions::KNOWN,
-    )?;
-    texts::first_lines(&rt)?;
-    texts::first_line_bytes(&rt)?;
-    texts::cycle_lines(&rt)?;
-    texts::cycle_line_bytes(&rt)?;
-    texts::long_inputs(&rt)
+    small_inputs(&rt)?;
+    long_runs(&rt)?;
+    packed_scan(&rt)?;
+    adder(&rt)?;
+    refused(&rt)?;
+    converted(&rt)?;
+    let mut program = Program::new();
+    texts::first_lines(&rt, &mut program)?;
+    texts::cycle_lines(&rt, &mut program)?;
+    texts::long_inputs(&rt, &mut program)
 }
 
 // The known turns of 01, and the tables of the source documents.
 fn documents(rt: &impl Print) -> io::Result<()> {
-    lines(rt, b"known turns|", Group::Known, known::CASES)?;
-    lines(
+    numbers(rt, "known turns", known::CASES, known::case)?;
+    for (name, table) in [
+        ("tree, table 2 of 000", Table::Table2),
+        ("tree, table II of 002", Table::TableII),
+        ("tree, equation 13 of 002", Table::Equation13),
+    ] {
+        let mut walk = Walk::new(table);
+        numbers(rt, name, tables::CASES, |i| walk.case(i))?;
+    }
+    items(
         rt,
-        b"tree, table 2 of 000|tree, table II of 002|tree, equation 13 of 002|",
-        Group::Node,
-        tables::CASES,
+        "tree, worked example of 000",
+        &known::TURNS[..known::EXAMPLE],
+        known::node_buffer,
     )?;
-    lines(
+    items(
         rt,
-        b"tree, worked example of 000|",
-        Group::Example,
-        known::EXAMPLE,
+        "adder, truth table of 001",
+        &sums::SUMS[..sums::TRUTH_TABLE],
+        sums::known,
+    )
+}
+
+// The engines on every small input.
+fn small_inputs(rt: &impl Print) -> io::Result<()> {
+    for (name, engine) in [
+        ("scan, every input for widths 1 to 8", Engine::Scan),
+        ("tree, every input for widths 2, 4 and 8", Engine::Tree),
+        (
+            "thermometer, every input for widths 1 to 8",
+            Engine::Thermometer,
+        ),
+        (
+            "Kogge-Stone, every input for widths 1 to 8",
+            Engine::KoggeStone,
+        ),
+        ("bus, every input for widths 1 to 8", Engine::Bus),
+    ] {
+        numbers(rt, name, small::CASES, |i| small::case(engine, i))?;
+    }
+    Ok(())
+}
+
+// The engines on runs.
+fn long_runs(rt: &impl Print) -> io::Result<()> {
+    for (name, engine) in [
+        ("scan, runs on widths 1 to 1024", Engine::Scan),
+        ("tree, runs on widths 2 to 1024", Engine::Tree),
+        ("thermometer, runs on widths 1 to 1024", Engine::Thermometer),
+        ("Kogge-Stone, runs on widths 1 to 1024", Engine::KoggeStone),
+        ("bus, runs on widths 1 to 1024", Engine::Bus),
+        ("packed scan, runs on widths 1 to 1024", Engine::Packed),
+    ] {
+        let mut run = Run::new(engine);
+        numbers(rt, name, runs::CASES, |i| run.case(i))?;
+    }
+    Ok(())
+}
+
+// The packed scan, beside the plain one.
+fn packed_scan(rt: &impl Print) -> io::Result<()> {
+    items(
+        rt,
+        "packed scan, known cycles",
+        &packed::TURNS,
+        packed::known,
     )?;
-    lines(
+    numbers(
         rt,
-        b"adder, truth table of 001|",
-        Group::TruthTable,
-        sums::TRUTH_TABLE,
+        "packed scan, every input for widths 1 to 12",
+        packed::CASES,
+        packed::case,
+    )
+}
+
+// The adder, alone and as the running codes of a cycle.
+fn adder(rt: &impl Print) -> io::Result<()> {
+    numbers(
+        rt,
+        "adder, all pairs of bytes for 0 to 9 picks",
+        sums::CASES,
+        sums::case,
+    )?;
+    numbers(
+        rt,
+        "adder, codes of counts and counts of bytes",
+        sums::CODES,
+        sums::code,
+    )?;
+    items(
+        rt,
+        "running codes, examples of 001",
+        &running::EXAMPLES,
+        running::known,
+    )?;
+    numbers(
+        rt,
+        "running codes, every input for widths 1 to 8",
+        running::CASES,
+        running::case,
+    )
+}
+
+// Every refusal of every call.
+fn refused(rt: &impl Print) -> io::Result<()> {
+    for (name, call) in [
+        ("opening without a head, refusals", Call::Open),
+        ("opening with a head, refusals", Call::OpenAt),
+        ("cycle, refusals", Call::Cycle),
+        ("reading an image, refusals", Call::ReadOneHot),
+        ("writing an image, refusals", Call::WriteOneHot),
+        ("reading a snapshot, refusals", Call::ReadSnapshot),
+        ("writing a snapshot, refusals", Call::WriteSnapshot),
+        ("adder, refusals", Call::Add),
+        (
+            "reading a short snapshot, refusals",
+            Call::ReadShortSnapshot,
+        ),
+    ] {
+        numbers(rt, name, refusals::CASES, |i| refusals::case(call, i))?;
+    }
+    Ok(())
+}
+
+// The image and the snapshot of a state.
+fn converted(rt: &impl Print) -> io::Result<()> {
+    for (name, form) in [
+        ("one-hot image, each way", Form::OneHot),
+        ("snapshot, each way", Form::Snapshot),
+        ("short snapshot, read", Form::ShortSnapshot),
+    ] {
+        numbers(rt, name, conversions::CASES, |i| conversions::case(form, i))?;
+    }
+    numbers(
+        rt,
+        "snapshots of four and six bytes, written down",
+        conversions::KNOWN,
+        conversions::known,
     )
 }

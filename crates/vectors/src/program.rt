@@ -1,206 +1,107 @@
-// Inputs of the program against the texts that they give. They stand in a list, whose kind says how. The heading, which every text
-// begins with, is left out.
-ghost use Rattle.std.specs.Prelude.{◌<◌, ◌≤◌};
-
-use crate::report::{Outcome, Tally};
-use crate::{compare, engine, pieces};
+// Inputs of the program against the texts that they give. The heading, which every text begins with, is left out.
+use crate::conversions::byte;
+use std::fs;
 use std::rt::Files;
-use std::{fs, io};
-use transcript::LIMIT;
+use transcript::{LIMIT, READ_SIZE};
 
-// No list has more cases.
-const MOST: usize = 8192;
+// The heading.
+const HEADING: &[u8] = b"line granted next\n";
 
-// What the lengths of long inputs are said to be. The array that they stand in has 65,537 bytes.
-const LENGTHS: [usize; 4] = [65536, 65537, 65538, 18446744073709551615];
+// The array that an input is read into, and the one that its text is written to.
+#[derive(Drop)]
+pub struct Program {
+    input: [u8; READ_SIZE],
+    output: [u8; LIMIT],
+}
 
+// An input with an `@` in it, which stands for each of the 256 bytes: sets of bytes and the text that these give, and the text that
+// all others give.
 #[derive(Clone, Copy)]
-pub enum Kind {
-    // A text, and then the inputs that give it.
-    Same,
-    // An input and its text, again and again.
-    Pairs,
-    // The same, with zeros after the input, up to each of the long lengths.
-    Long,
-    // An input with an `@` in it, which stands for each of the 256 bytes; three times a set of bytes and the text that these give;
-    // and the text that all others give.
-    Bytes,
-    // The names of a file that holds an input and of one that holds its text.
-    Files,
+pub struct Place<'a> {
+    pub input: &'a str,
+    pub sets: &'a [(&'a str, &'a str)],
+    pub others: &'a str,
 }
 
-// What a case is made of: the pieces that hold its input and its text.
-#[derive(Clone, Copy)]
-struct Pieces {
-    input: usize,
-    text: usize,
-}
-
-// All cases of a list, as a line of its own.
-pub(crate) fn line(
-    rt: &(impl Print + Files + AllocGlobal),
-    name: &[u8],
-    kind: Kind,
-    list: &[u8],
-) -> io::Result<()> {
-    let mut input = [b'0'; 65537];
-    let mut output = [0u8; LIMIT];
-    let mut t = Tally {
-        cases: 0,
-        differ: 0,
-    };
-    let mut i: usize = 0;
-    while i < MOST {
-        let before = t;
-        t = t.add(case(rt, kind, list, i, &mut input, &mut output));
-        t.list(rt, before, i)?;
-        i += 1;
+impl<'a> Place<'a> {
+    // The text after the first set that has this byte, or else the last.
+    fn text(&self, byte: u8) -> &'a str {
+        self.sets
+            .iter()
+            .find(|(set, _)| set.as_bytes().contains(&byte))
+            .map_or(self.others, |(_, text)| *text)
     }
-    t.line(rt, name)
 }
 
-fn case(
-    rt: &(impl Files + AllocGlobal),
-    kind: Kind,
-    list: &[u8],
-    i: usize,
-    input: &mut [u8; 65537],
-    output: &mut [u8; LIMIT],
-) -> Outcome
-    requires { i < 8192 }
-{
-    let p = pieces_of(kind, list, i);
-    if pieces::missing(list, p.input) {
-        return Outcome::Skipped;
+impl Program {
+    // Both arrays, with nothing read or written.
+    pub(crate) fn new() -> Program {
+        Program {
+            input: [b'0'; READ_SIZE],
+            output: [0; LIMIT],
+        }
     }
-    let given = pieces::piece(list, p.input);
-    let known = pieces::piece(list, p.text);
-    if let Kind::Files = kind {
-        let read = read(rt, given, input);
-        return Outcome::Ran(gives_file(rt, input, read, known, output));
-    }
-    let copied = copy(given, input);
-    put((i % 256) as u8, input);
-    Outcome::Ran(gives(input, length(kind, i, copied), known, output))
-}
 
-fn pieces_of(kind: Kind, list: &[u8], i: usize) -> Pieces
-    requires { i < 8192 }
-{
-    match kind {
-        Kind::Same => Pieces {
-            input: i + 1,
-            text: 0,
-        },
-        Kind::Bytes => {
-            let input = i / 256 * 8;
-            Pieces {
-                input,
-                text: byte_text(list, input, (i % 256) as u8),
+    // Whether an input gives this text.
+    pub(crate) fn gives(&mut self, input: &str, text: &str) -> bool {
+        let length = self.read(input.as_bytes());
+        self.prints(length, text.as_bytes())
+    }
+
+    // Whether the input of a place gives its text, with the byte of a number: 256 numbers for each place of the list.
+    pub(crate) fn gives_at(&mut self, list: &[Place<'_>], i: usize) -> Option<bool> {
+        let place = list.get(i / 256)?;
+        let byte = byte(i);
+        let length = self.read(place.input.as_bytes());
+        for at in self.input.iter_mut().take(length) {
+            if *at == b'@' {
+                *at = byte;
             }
         }
-        Kind::Pairs => pair(i),
-        Kind::Long => pair(i),
-        Kind::Files => pair(i),
+        Some(self.prints(length, place.text(byte).as_bytes()))
     }
-}
 
-fn pair(i: usize) -> Pieces
-    requires { i < 8192 }
-{
-    Pieces {
-        input: 2 * i,
-        text: 2 * i + 1,
+    // Whether an input with zeros after it, of which so many bytes are read, gives this text.
+    pub(crate) fn gives_long(&mut self, input: &str, length: usize, text: &str) -> bool {
+        self.input.fill(b'0');
+        self.read(input.as_bytes());
+        self.prints(length, text.as_bytes())
     }
-}
 
-// How long an input is said to be.
-fn length(kind: Kind, i: usize, copied: usize) -> usize {
-    if let Kind::Long = kind {
-        return LENGTHS[i % 4];
+    // Whether the input in a file gives the text in another, which has the heading too. A file that is missing differs.
+    pub(crate) fn gives_file(
+        &mut self,
+        rt: &(impl Files + AllocGlobal),
+        input: &str,
+        text: &str,
+    ) -> bool {
+        let Ok(input) = fs::read(rt, input) else {
+            return false;
+        };
+        let Ok(text) = fs::read(rt, text) else {
+            return false;
+        };
+        let length = self.read(input.as_slice());
+        match text.as_slice().strip_prefix(HEADING) {
+            None => false,
+            Some(text) => self.prints(length, text),
+        }
     }
-    copied
-}
 
-// The piece after the first set that has this byte, or else the last.
-fn byte_text(list: &[u8], given: usize, byte: u8) -> usize
-    requires { given < 16384 }
-{
-    if pieces::has(list, given + 1, byte) {
-        return given + 2;
+    // Writes an input at the start of the array, and answers how long it is.
+    fn read(&mut self, input: &[u8]) -> usize {
+        let length = input.len().min(READ_SIZE);
+        self.input[..length].copy_from_slice(&input[..length]);
+        length
     }
-    if pieces::has(list, given + 3, byte) {
-        return given + 4;
-    }
-    if pieces::has(list, given + 5, byte) {
-        return given + 6;
-    }
-    given + 7
-}
 
-// Writes a text at the start of the input, and answers how long it is.
-fn copy(text: &[u8], input: &mut [u8; 65537]) -> usize
-    ensures { result ≤ 65537 }
-{
-    let end = engine::lesser(text.len(), 65537);
-    let mut i: usize = 0;
-    while i < end {
-        input[i] = text[i];
-        i += 1;
+    // Whether so much of the array gives the heading and then this text.
+    fn prints(&mut self, length: usize, text: &[u8]) -> bool {
+        let input = &self.input[..length.min(READ_SIZE)];
+        let written = transcript::run(input, &mut self.output);
+        let Some(output) = self.output.get(..written) else {
+            return false;
+        };
+        output.strip_prefix(HEADING) == Some(text)
     }
-    i
-}
-
-// Writes a byte in place of the `@`.
-fn put(byte: u8, input: &mut [u8; 65537]) {
-    let at = pieces::nth(input, b'@', 0);
-    if at < 65537 {
-        input[at] = byte;
-    }
-}
-
-// Reads a file, and answers how long it is: 0 where it is missing.
-fn read(rt: &(impl Files + AllocGlobal), name: &[u8], input: &mut [u8; 65537]) -> usize
-    ensures { result ≤ 65537 }
-{
-    let Ok(path) = str::from_utf8(name) else {
-        return 0;
-    };
-    let Ok(bytes) = fs::read(rt, path) else {
-        return 0;
-    };
-    copy(bytes.as_slice(), input)
-}
-
-// Whether an input gives the text in a file, which has the heading too. A file that is missing differs.
-fn gives_file(
-    rt: &(impl Files + AllocGlobal),
-    input: &[u8; 65537],
-    length: usize,
-    name: &[u8],
-    output: &mut [u8; LIMIT],
-) -> bool {
-    let mut known = [0u8; 65537];
-    let end = read(rt, name, &mut known);
-    if end < 18 {
-        return false;
-    }
-    gives(input, length, &known[18..end], output)
-}
-
-// Whether an input gives the heading and then this text.
-fn gives(input: &[u8; 65537], length: usize, known: &[u8], output: &mut [u8; LIMIT]) -> bool {
-    let written = transcript::run(input, length, output);
-    is_text(written, known, output)
-}
-
-fn is_text(written: usize, known: &[u8], output: &[u8; LIMIT]) -> bool {
-    if written < 18 {
-        return false;
-    }
-    let text: &[u8] = output;
-    let rest = &text[18..];
-    (written - 18 == known.len())
-        & compare::begins(text, b"line granted next\n")
-        & compare::begins(rest, known)
 }

@@ -1,42 +1,153 @@
-// Every refusal of every call, and every order of them. A set of faults is a number: bit k is 1 where the input is wrong by
-// question k. Each call is made with every set of the faults that it asks about, in three variants of each fault, and must refuse
-// by the first.
-ghost use Rattle.std.specs.Prelude.{◌≡◌, ◌≤◌, length};
+// Every refusal of every call, and every order of them. Each call is made with every set of the faults that it asks about, in three
+// variants of each fault, and must refuse by the first.
+ghost use Rattle.std.specs.Prelude.{◌<◌, ◌≤◌};
 
-use crate::engine::Lengths;
-use crate::report::Outcome;
-use crate::{compare, engine, packed, small};
-use arbiter::State;
+use crate::engine::{self, ENGINES, Engine};
+use crate::{compare, packed};
+use arbiter::{Answer, State};
+use one_hot::OneHot;
 use packed_scan::PackedScan;
-use rules::Head;
 use snapshot::Snapshot;
 use thermometer::adder;
 
-const WIDTH: usize = 2;
+// The calls that refuse.
+#[derive(Clone, Copy, Debug, PartialEq, Eq)]
+pub enum Call {
+    Open,
+    OpenAt,
+    Cycle,
+    ReadOneHot,
+    WriteOneHot,
+    ReadSnapshot,
+    WriteSnapshot,
+    Add,
+    ReadShortSnapshot,
+}
 
-const TREE_WIDTH: usize = 4;
+// What is wrong with an input, as the number of the refusal.
+#[derive(Clone, Copy, Debug, PartialEq, Eq)]
+enum Fault {
+    Width = 1,
+    TreeWidth = 2,
+    Picks = 3,
+    Head = 4,
+    Read = 5,
+    Write = 6,
+    Nodes = 7,
+    Bit = 8,
+    Acknowledge = 9,
+    SecondOne = 10,
+    Code = 13,
+    Unused = 14,
+}
 
-const PICKS: usize = 8;
+// The faults in the order of the questions.
+static FAULTS: [Fault; 12] = [
+    Fault::Width,
+    Fault::TreeWidth,
+    Fault::Picks,
+    Fault::Head,
+    Fault::Read,
+    Fault::Write,
+    Fault::Nodes,
+    Fault::Bit,
+    Fault::Acknowledge,
+    Fault::SecondOne,
+    Fault::Code,
+    Fault::Unused,
+];
 
-const HEAD: usize = 16;
+impl Fault {
+    // The number of its refusal. The numbers are the kinds' own, so the cast is what gives them.
+    fn number(self) -> usize
+        ensures { result < 15 }
+    {
+        self as usize
+    }
+}
 
-const READ: usize = 32;
+// A set of faults: the bit of a fault's number is 1.
+#[derive(Clone, Copy, Debug, PartialEq, Eq)]
+struct Faults(usize);
 
-const WRITE: usize = 64;
+impl Faults {
+    // These faults alone.
+    fn of(faults: &[Fault]) -> Faults {
+        Faults(0).with(faults)
+    }
 
-const NODES: usize = 128;
+    // These faults too.
+    fn with(self, faults: &[Fault]) -> Faults {
+        faults
+            .iter()
+            .fold(self, |set, fault| Faults(set.0 | 1 << fault.number()))
+    }
 
-const BITS: usize = 256;
+    // Whether it has a fault.
+    fn has(self, fault: Fault) -> bool {
+        (self.0 >> fault.number()) % 2 == 1
+    }
 
-const ACKNOWLEDGE: usize = 512;
+    // Whether another set has all of them.
+    fn is_within(self, other: Faults) -> bool {
+        self.0 & other.0 == self.0
+    }
+}
 
-const SECOND_ONE: usize = 1024;
+// An input with these faults, in one of three variants.
+#[derive(Clone, Copy)]
+struct Faulty {
+    faults: Faults,
+    variant: usize,
+}
 
-const CODE: usize = 8192;
+impl Faulty {
+    // Whether it has a fault.
+    fn has(self, fault: Fault) -> bool {
+        self.faults.has(fault)
+    }
 
-const UNUSED: usize = 16384;
+    // The right value or, by a fault, the wrong one of the variant.
+    fn value<T: Copy>(self, fault: Fault, right: T, wrong: [T; 3]) -> T {
+        if self.has(fault) {
+            return wrong[self.variant % 3];
+        }
+        right
+    }
 
-const STATE: usize = WIDTH | PICKS | HEAD;
+    // A length, of no more than there is room for: by a fault one more, one less or 0.
+    fn length(self, fault: Fault, right: usize) -> usize
+        ensures { result ≤ 2048 }
+    {
+        let wrong = [right.saturating_add(1), last(right), 0];
+        self.value(fault, right, wrong).min(ROOM)
+    }
+
+    // Where a fault of a byte stands in `n` bytes, which may be at `first`.
+    fn spot(self, fault: Fault, n: usize, first: usize) -> usize {
+        self.value(fault, 0, [first, last(n), n / 2])
+    }
+
+    // The first fault, in order of number.
+    fn first(self) -> Option<Fault> {
+        FAULTS.iter().copied().find(|fault| self.has(*fault))
+    }
+
+    // The place that is refused in `n` bytes: the first byte that is not a bit, the second 1, or the last byte of packed wires.
+    fn place(self, n: usize) -> usize {
+        match self.first() {
+            Some(Fault::Bit) => self.spot(Fault::Bit, n, 0),
+            Some(Fault::SecondOne) => self.spot(Fault::SecondOne, n, 1),
+            Some(Fault::Unused) => last(n),
+            _ => 0,
+        }
+    }
+
+    // Whether a call on `n` bytes refuses by the first fault, and leaves this state.
+    fn refused(self, a: Answer, n: usize, s: State) -> bool {
+        self.first().is_some_and(|fault| compare::refuses(a, fault.number(), self.place(n), s))
+    }
+}
 
 // How long the longest buffers are.
 const ROOM: usize = engine::NODES;
@@ -47,307 +158,232 @@ const KEPT: u8 = 7;
 // 3 variants, 32,768 sets of faults, 6 engines. The calls that are no engine's are made with the first of these.
 pub(crate) const CASES: usize = 3 * 32768 * 6;
 
-// A set of faults, in one variant.
-#[derive(Clone, Copy)]
-struct Faults {
-    set: usize,
-    variant: usize,
-}
-
-impl Faults {
-    fn has(self, fault: usize) -> bool {
-        (self.set & fault) != 0
+// The case of a number, by a call.
+pub(crate) fn case(call: Call, i: usize) -> Option<bool> {
+    let faults = Faults(i / 3 % 32768);
+    let engine = ENGINES[i / 98304 % 6];
+    if faults == Faults(0) || !faults.is_within(asked(call, engine)) {
+        return None;
     }
-
-    // The right value or, by a fault, the wrong one of the variant.
-    fn value(self, fault: usize, right: usize, wrong: [usize; 3]) -> usize {
-        if (self.set & fault) == 0 {
-            return right;
-        }
-        let variant = self.variant % 3;
-        wrong[variant]
+    if engine != Engine::Scan && !matches!(call, Call::Open | Call::OpenAt | Call::Cycle) {
+        return None;
     }
-
-    fn byte(self, fault: usize, right: usize, wrong: [usize; 3]) -> u8 {
-        (self.value(fault, right, wrong) % 256) as u8
-    }
-
-    // A length: by a fault one more, one less or 0.
-    fn length(self, fault: usize, right: usize) -> usize
-        requires { right ≤ 2048 }
-    {
-        self.value(fault, right, [right + 1, small::last(right), 0])
-    }
-
-    // The first question, in order of number, that refuses.
-    fn first(self) -> usize {
-        (usize::trailing_zeros(self.set) % 64) as usize
-    }
-}
-
-pub(crate) fn case(call: usize, i: usize) -> Outcome {
-    let f = Faults {
-        set: i / 3 % 32768,
+    let input = Faulty {
+        faults,
         variant: i % 3,
     };
-    let e = i / 98304;
-    let known = (f.set & asked_by(call, e)) == f.set;
-    if (f.set == 0) | !known | ((engine::CYCLE < call) & (0 < e)) {
-        return Outcome::Skipped;
-    }
-    Outcome::Ran(refuses(call, e, f, state(e, f)))
-}
-
-// The questions that a call asks.
-fn asked(call: usize) -> usize {
-    match call {
-        engine::OPEN => WIDTH | PICKS,
-        engine::OPEN_AT => STATE,
-        engine::CYCLE => STATE | READ | WRITE | BITS,
-        engine::READ_ONE_HOT => STATE | READ | BITS | SECOND_ONE,
-        engine::READ_SNAPSHOT => READ | BITS | STATE,
-        engine::READ_SHORT_SNAPSHOT => READ | BITS | PICKS | HEAD,
-        engine::ADD => PICKS | CODE,
-        _ => STATE | WRITE,
-    }
-}
-
-// The questions that only the tree asks, and only the bus, by 6 × call + engine: opening without a head, opening with one by the
-// tree, and the cycle.
-fn engine_asks(call: usize, e: usize) -> usize {
-    match 6 * (call % 8) + e % 6 {
-        1 => TREE_WIDTH,
-        4 => HEAD,
-        7 => TREE_WIDTH,
-        13 => TREE_WIDTH | NODES,
-        16 => ACKNOWLEDGE,
-        _ => 0,
-    }
+    Some(refuses(call, engine, input, state(engine, input)))
 }
 
 // The questions that a call by an engine asks. The packed scan's cycle asks 14 in place of 8.
-fn asked_by(call: usize, e: usize) -> usize {
-    if (call == engine::CYCLE) & (e == engine::PACKED) {
-        return STATE | READ | WRITE | UNUSED;
+fn asked(call: Call, engine: Engine) -> Faults {
+    let state = Faults::of(&[Fault::Width, Fault::Picks, Fault::Head]);
+    let asked = match call {
+        Call::Open => Faults::of(&[Fault::Width, Fault::Picks]),
+        Call::OpenAt => state,
+        Call::Cycle if engine == Engine::Packed => {
+            state.with(&[Fault::Read, Fault::Write, Fault::Unused])
+        }
+        Call::Cycle => state.with(&[Fault::Read, Fault::Write, Fault::Bit]),
+        Call::ReadOneHot => state.with(&[Fault::Read, Fault::Bit, Fault::SecondOne]),
+        Call::WriteOneHot | Call::WriteSnapshot => state.with(&[Fault::Write]),
+        Call::ReadSnapshot => state.with(&[Fault::Read, Fault::Bit]),
+        Call::ReadShortSnapshot => {
+            Faults::of(&[Fault::Read, Fault::Bit, Fault::Picks, Fault::Head])
+        }
+        Call::Add => Faults::of(&[Fault::Picks, Fault::Code]),
+    };
+    asked.with(engine_asks(call, engine))
+}
+
+// The questions that only the tree asks, and only the bus.
+fn engine_asks(call: Call, engine: Engine) -> &'static [Fault] {
+    match (call, engine) {
+        (Call::Open | Call::OpenAt, Engine::Tree) => &[Fault::TreeWidth],
+        (Call::Cycle, Engine::Tree) => &[Fault::TreeWidth, Fault::Nodes],
+        (Call::Open, Engine::Bus) => &[Fault::Head],
+        (Call::Cycle, Engine::Bus) => &[Fault::Acknowledge],
+        _ => &[],
     }
-    asked(call) | engine_asks(call, e)
 }
 
 // Whether a call refuses as it should.
-fn refuses(call: usize, e: usize, f: Faults, s: State) -> bool {
-    match call {
-        engine::OPEN => open(e, f, s),
-        engine::OPEN_AT => compare::opening(e, s, f.first()),
-        engine::READ_SNAPSHOT => read_snapshot(f),
-        engine::READ_SHORT_SNAPSHOT => read_short(f),
-        engine::ADD => add(f),
-        engine::WRITE_SNAPSHOT => on_buffers(call, e, f, s, 6),
-        _ => with_buffers(call, e, f, s),
-    }
-}
-
-// A cycle, or a call on an image. The packed scan's buffers are packed.
-fn with_buffers(call: usize, e: usize, f: Faults, s: State) -> bool {
+fn refuses(call: Call, engine: Engine, f: Faulty, s: State) -> bool {
     let n = stations(s.width);
-    if (call == engine::CYCLE) & (e == engine::PACKED) {
-        return on_packed(f, s, packed::size(n));
+    match call {
+        Call::Open => open(engine, f, s),
+        Call::OpenAt => compare::opening(engine, s, f.first().map(Fault::number)),
+        Call::Cycle if engine == Engine::Packed => packed_cycle(f, s, packed::size(n)),
+        Call::Cycle => cycle(engine, f, s, n),
+        Call::ReadOneHot => read_image(f, s, n),
+        Call::WriteOneHot => writes(f, s, n, |image| OneHot(s).write(image)),
+        Call::WriteSnapshot => writes(f, s, 6, |snapshot| Snapshot(s).write(snapshot)),
+        Call::ReadSnapshot => read_snapshot(f),
+        Call::ReadShortSnapshot => read_short(f),
+        Call::Add => add(f),
     }
-    on_buffers(call, e, f, s, n)
 }
 
 // A state of 4 stations with these faults, for the packed scan of 12, which take two bytes. The last picks are one more than the
-// engine takes.
-fn state(e: usize, f: Faults) -> State {
-    let tree_width = f.value(TREE_WIDTH, right_width(e), [1, 6, 1023]);
-    let width = f.value(WIDTH, tree_width, [0, 1025, 5000]);
-    let picks = f.value(PICKS, 1, [0, 9, engine::most_picks(e, 4) + 1]);
-    State {
-        width,
-        picks,
-        head: head(e, f, width),
-    }
-}
-
-fn right_width(e: usize) -> usize {
-    if e == engine::PACKED {
-        return 12;
-    }
-    4
-}
-
-// The last is no token where the engine wants one.
-fn head(e: usize, f: Faults, width: usize) -> Head {
-    if f.has(HEAD) & (f.variant == 2) & (e == engine::BUS) {
-        return Head::None;
-    }
-    Head::At(f.value(HEAD, 0, [width, 1000000, 5000]))
+// engine takes, and the last head is no token where the engine wants one.
+fn state(engine: Engine, f: Faulty) -> State {
+    let right = if engine == Engine::Packed { 12 } else { 4 };
+    let tree_width = f.value(Fault::TreeWidth, right, [1, 6, 1023]);
+    let width = f.value(Fault::Width, tree_width, [0, 1025, 5000]);
+    let picks = f.value(Fault::Picks, 1, [0, 9, engine.most_picks(4) + 1]);
+    let last = (engine != Engine::Bus).then_some(5000);
+    let head = f.value(Fault::Head, Some(0), [Some(width), Some(1000000), last]);
+    compare::state(width, picks, head)
 }
 
 // An opening without a head, which the bus refuses by 4 if by nothing before.
-fn open(e: usize, f: Faults, s: State) -> bool {
-    let headless = State {
-        width: s.width,
-        picks: s.picks,
-        head: Head::None,
-    };
-    let mut f = f;
-    f.set = f.set | (engine_asks(engine::OPEN, e) & HEAD);
-    compare::opening(e, headless, f.first())
+fn open(engine: Engine, mut f: Faulty, s: State) -> bool {
+    if !engine.takes(None) {
+        f.faults = f.faults.with(&[Fault::Head]);
+    }
+    let headless = compare::state(s.width, s.picks, None);
+    compare::opening(engine, headless, f.first().map(Fault::number))
 }
 
-// A call that is given a state and a buffer of `n` bytes to read or to write: a cycle, or all but reading a snapshot.
-fn on_buffers(call: usize, e: usize, f: Faults, s: State, n: usize) -> bool
+// A cycle of an engine with `n` stations.
+fn cycle(engine: Engine, f: Faulty, s: State, n: usize) -> bool
     requires { n ≤ 1024 }
 {
-    let lengths = Lengths {
-        read: f.length(READ, n),
-        write: f.length(WRITE, n),
-        nodes: f.length(NODES, 2 * n),
-    };
-    let bytes = spoilt(f, n, (call == engine::CYCLE) as u8);
-    let mut written = [KEPT; ROOM];
+    let requests = spoilt(f, n, 1);
+    let mut grants = [KEPT; ROOM];
     let mut nodes = [KEPT; ROOM];
-    let acknowledge = f.byte(ACKNOWLEDGE, 1, [2, 255, 3]);
-    let a = engine::call(
-        call,
-        e,
+    let a = engine.cycle(
         s,
-        lengths,
-        &bytes,
-        &mut written,
-        &mut nodes,
-        acknowledge,
+        &requests[..f.length(Fault::Read, n)],
+        &mut grants[..f.length(Fault::Write, n)],
+        &mut nodes[..f.length(Fault::Nodes, 2 * n)],
+        f.value(Fault::Acknowledge, 1, [2, 255, 3]),
     );
-    compare::answer(a, f.first(), place(f, n), 0, s) & kept(&written) & kept(&nodes)
+    f.refused(a, n, s) && grants == [KEPT; ROOM] && nodes == [KEPT; ROOM]
 }
 
 // A cycle of the packed scan on `n` bytes, the first of them 1. The fault is the first bit past the stations, the last, or all.
-fn on_packed(f: Faults, s: State, n: usize) -> bool
-    requires { n ≤ 128 }
+fn packed_cycle(f: Faulty, s: State, n: usize) -> bool {
+    let unused = f.value(Fault::Unused, 0, [16, 128, 240]);
+    let mut requests = [0u8; ROOM];
+    put(&mut requests, 0, 1);
+    put(&mut requests, last(n), unused % 255 + 1);
+    let mut grants = [KEPT; ROOM];
+    let a = PackedScan(s).cycle(
+        &requests[..f.length(Fault::Read, n)],
+        &mut grants[..f.length(Fault::Write, n)],
+    );
+    f.refused(a, n, s) && grants == [KEPT; ROOM]
+}
+
+// Reading an image of `n` bytes.
+fn read_image(f: Faulty, s: State, n: usize) -> bool {
+    let image = spoilt(f, n, 0);
+    let read = f.length(Fault::Read, n);
+    f.refused(OneHot(s).read(&image[..read]), n, s)
+}
+
+// Writing a state as `n` bytes.
+fn writes<F: FnOnce(&mut [u8]) -> Answer>(f: Faulty, s: State, n: usize, write: F) -> bool
+    requires { F.IsAlwaysCallable write }
 {
-    let read = engine::lesser(f.length(READ, n), 129);
-    let write = engine::lesser(f.length(WRITE, n), 129);
-    let unused = f.byte(UNUSED, 0, [16, 128, 240]);
-    let first = set([0u8; ROOM], 0, 1);
-    let requests = set(first, small::last(n), unused % 255 + 1);
     let mut written = [KEPT; ROOM];
-    let a = PackedScan(s).cycle(&requests[0..read], &mut written[0..write]);
-    compare::answer(a, f.first(), place(f, n), 0, s) & kept(&written)
+    let a = write(&mut written[..f.length(Fault::Write, n)]);
+    f.refused(a, n, s) && written == [KEPT; ROOM]
 }
 
 // Six bytes. The width is too large by one, by all its bits, and by its high byte; the head is past the end by its low byte, by its
 // high byte, and then there is a high byte of a head that is marked as none.
-fn read_snapshot(f: Faults) -> bool {
+fn read_snapshot(f: Faulty) -> bool {
     let snapshot = [
-        f.byte(WIDTH, 3, [0, 255, 3]),
-        f.byte(WIDTH, 0, [4, 255, 5]),
-        f.byte(PICKS, 2, [0, 9, 5]),
-        f.byte(HEAD, 3, [4, 0, 0]),
-        f.byte(HEAD, 0, [0, 1, 1]),
-        f.byte(BITS, f.value(HEAD, 1, [1, 1, 0]), [2, 255, 3]),
+        f.value(Fault::Width, 3, [0, 255, 3]),
+        f.value(Fault::Width, 0, [4, 255, 5]),
+        f.value(Fault::Picks, 2, [0, 9, 5]),
+        f.value(Fault::Head, 3, [4, 0, 0]),
+        f.value(Fault::Head, 0, [0, 1, 1]),
+        f.value(Fault::Bit, f.value(Fault::Head, 1, [1, 1, 0]), [2, 255, 3]),
         0,
     ];
     unread(f, &snapshot, 6)
 }
 
 // Four bytes, with a head past the end twice, and then one that is marked as none.
-fn read_short(f: Faults) -> bool {
+fn read_short(f: Faulty) -> bool {
     let snapshot = [
         3,
-        f.byte(PICKS, 2, [0, 9, 5]),
-        f.byte(HEAD, 3, [4, 255, 1]),
-        f.byte(BITS, f.value(HEAD, 1, [1, 1, 0]), [2, 255, 3]),
-        0,
-        0,
+        f.value(Fault::Picks, 2, [0, 9, 5]),
+        f.value(Fault::Head, 3, [4, 255, 1]),
+        f.value(Fault::Bit, f.value(Fault::Head, 1, [1, 1, 0]), [2, 255, 3]),
         0,
     ];
     unread(f, &snapshot, 4)
 }
 
-// Whether a snapshot of so many bytes is refused by the first fault. Reading it asks 5, 8 of the last byte, 1, 3 and 4, in this
-// order.
-fn unread(f: Faults, snapshot: &[u8; 7], size: usize) -> bool
-    requires { size ≤ 6 }
-{
-    let all = &snapshot[..];
-    let length = engine::lesser(f.length(READ, size), 7);
-    let a = Snapshot::read(&all[0..length]);
-    if f.has(READ) {
-        return compare::answer(a, 5, 0, 0, compare::nothing());
+// Whether a snapshot of so many bytes, after which comes one more, is refused by the first fault. Reading it asks 5, 8 of the last
+// byte, 1, 3 and 4, in this order.
+fn unread(f: Faulty, snapshot: &[u8], size: usize) -> bool {
+    let length = f.length(Fault::Read, size).min(snapshot.len());
+    let a = Snapshot::read(&snapshot[..length]);
+    if f.has(Fault::Read) {
+        return compare::makes_nothing(a, Fault::Read.number(), 0);
     }
-    if f.has(BITS) {
-        return compare::answer(a, 8, small::last(size), 0, compare::nothing());
+    if f.has(Fault::Bit) {
+        return compare::makes_nothing(a, Fault::Bit.number(), last(size));
     }
-    compare::answer(a, f.first(), 0, 0, compare::nothing())
+    f.first()
+        .is_some_and(|fault| compare::makes_nothing(a, fault.number(), 0))
 }
 
 // With 3 picks: a left and a right byte with a gap, and a code that is too long.
-fn add(f: Faults) -> bool {
-    let picks = f.value(PICKS, 3, [0, 9, 1000]);
-    let left = f.byte(CODE, 1, [2, 1, 15]);
-    let right = f.byte(CODE, 1, [1, 2, 1]);
-    compare::sum(adder::add(picks, left, right), f.first(), 0)
-}
-
-// Whether a buffer is as it was filled.
-fn kept(buffer: &[u8; ROOM]) -> bool {
-    compare::begins(buffer, &[KEPT; ROOM])
+fn add(f: Faulty) -> bool {
+    let picks = f.value(Fault::Picks, 3, [0, 9, 1000]);
+    let left = f.value(Fault::Code, 1, [2, 1, 15]);
+    let right = f.value(Fault::Code, 1, [1, 2, 1]);
+    let sum = adder::add(picks, left, right);
+    compare::sum(sum, f.first().map(Fault::number), 0)
 }
 
 // How many bytes go with a width: as many, or 4 where it is too large or none.
 fn stations(width: usize) -> usize
     ensures { result ≤ 1024 }
 {
-    if width == 0 {
-        return 4;
+    if 1 <= width && width <= 1024 {
+        width
+    } else {
+        4
     }
-    if 1024 < width {
-        return 4;
-    }
-    width
 }
 
-// Where a fault of a byte stands, which may be at `first`.
-fn spot(f: Faults, fault: usize, n: usize, first: usize) -> usize {
-    f.value(fault, 0, [first, small::last(n), n / 2])
-}
-
-// The place that is refused: the first byte that is not a bit, the second 1, or the last byte of packed wires.
-fn place(f: Faults, n: usize) -> usize {
-    match f.first() {
-        8 => spot(f, BITS, n, 0),
-        10 => spot(f, SECOND_ONE, n, 1),
-        14 => small::last(n),
-        _ => 0,
-    }
+// The last of `n` places, 0 where there is none.
+fn last(n: usize) -> usize {
+    n.saturating_sub(1)
 }
 
 // Bytes with a 1 at the first place: by the faults a second 1 and a byte that is not a bit, in the third variant with another
 // after it.
-fn spoilt(f: Faults, n: usize, byte: u8) -> [u8; ROOM]
-    ensures { 2048 ≡ length result }
-{
-    let first = set([byte; ROOM], 0, 1);
-    let after = set(
-        first,
-        f.value(SECOND_ONE, 0, [0, small::last(n), small::last(n)]),
+fn spoilt(f: Faulty, n: usize, byte: u8) -> [u8; ROOM] {
+    let mut bytes = [byte; ROOM];
+    put(&mut bytes, 0, 1);
+    put(
+        &mut bytes,
+        f.value(Fault::SecondOne, 0, [0, last(n), last(n)]),
         1,
     );
-    let second = set(after, spot(f, SECOND_ONE, n, 1), 1);
-    if f.has(BITS) {
-        let end = set(second, small::last(n), f.byte(BITS, 0, [1, 255, 9]));
-        return set(end, spot(f, BITS, n, 0), f.byte(BITS, 0, [2, 255, 2]));
+    put(&mut bytes, f.spot(Fault::SecondOne, n, 1), 1);
+    if f.has(Fault::Bit) {
+        put(&mut bytes, last(n), f.value(Fault::Bit, 0, [1, 255, 9]));
+        put(
+            &mut bytes,
+            f.spot(Fault::Bit, n, 0),
+            f.value(Fault::Bit, 0, [2, 255, 2]),
+        );
     }
-    second
+    bytes
 }
 
-fn set(bytes: [u8; ROOM], place: usize, byte: u8) -> [u8; ROOM]
-    ensures { 2048 ≡ length result }
-{
-    if ROOM <= place {
-        return bytes;
+// Writes a byte at a place, if there is such a place.
+fn put(bytes: &mut [u8], place: usize, byte: u8) {
+    if let Some(at) = bytes.get_mut(place) {
+        *at = byte;
     }
-    let mut bytes = bytes;
-    bytes[place] = byte;
-    bytes
 }

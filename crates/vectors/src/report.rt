@@ -1,50 +1,42 @@
 // The count of a group's cases, and what is printed of it.
-use std::io::{self, Write};
+use std::io;
 
 // How many differences of a group are listed. The others are only counted.
 const LISTED: usize = 10;
 
-// What a number of a walk comes to: no case, or a case and whether all that it compares is the same.
-#[derive(Clone, Copy)]
-pub enum Outcome {
-    Skipped,
-    Ran(bool),
-}
-
 // How many cases a group has had, and how many of them differ.
-#[derive(Clone, Copy)]
+#[derive(Clone, Copy, Debug, Default)]
 pub struct Tally {
-    pub cases: usize,
-    pub differ: usize,
+    cases: usize,
+    differ: usize,
 }
 
 impl Tally {
-    // The count with what came of one more number.
-    pub(crate) fn add(mut self, outcome: Outcome) -> Tally {
-        let Outcome::Ran(same) = outcome else {
-            return self;
+    // Counts what a number of the walk comes to: no case, or a case and whether all that it compares is the same. The number is
+    // printed if its case differs and is one of the first.
+    pub(crate) fn count(
+        &mut self,
+        rt: &impl Print,
+        number: usize,
+        outcome: Option<bool>,
+    ) -> io::Result<()> {
+        let Some(same) = outcome else {
+            return Ok(());
         };
-        self.cases = self.cases % 1000000000 + 1;
+        self.cases = self.cases.saturating_add(1);
         if same {
-            return self;
+            return Ok(());
         }
-        self.differ = self.differ % 1000000000 + 1;
-        self
-    }
-
-    // Prints the number `i`, with which the count `before` became this one, if its case differs and is one of the first.
-    pub(crate) fn list(self, rt: &impl Print, before: Tally, i: usize) -> io::Result<()> {
-        if (self.differ != before.differ) & (before.differ < LISTED) {
-            println!(rt; "  differs: case {i}")?;
+        if self.differ < LISTED {
+            println!(rt; "  differs: case {number}")?;
         }
+        self.differ = self.differ.saturating_add(1);
         Ok(())
     }
 
     // Prints the group's line.
-    pub(crate) fn line(self, rt: &impl Print, group: &[u8]) -> io::Result<()> {
-        let cases = self.cases;
-        let differ = self.differ;
-        io::writer(rt).write_all(group)?;
-        println!(rt; ": {cases} cases, {differ} differ")
+    pub(crate) fn line(self, rt: &impl Print, group: &str) -> io::Result<()> {
+        let Tally { cases, differ } = self;
+        println!(rt; "{group}: {cases} cases, {differ} differ")
     }
 }

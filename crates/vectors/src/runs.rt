@@ -1,32 +1,67 @@
 // Runs on every width against the model: requests, heads and picks come from a generator, and each cycle starts from the state
 // that the last one left.
-use crate::engine::WIDEST;
-use crate::model::Cycle;
-use crate::report::Outcome;
-use crate::walk::Progress;
-use crate::{engine, model, small};
+use crate::engine::{Engine, WIDEST};
+use crate::{compare, model};
 use arbiter::State;
-use rules::Head;
 
 // Widths above 256: about the powers of two and their sums, and others between.
-const WIDE: [usize; 16] = [
+static WIDE: [usize; 16] = [
     257, 258, 319, 384, 500, 511, 512, 513, 640, 767, 768, 769, 900, 1000, 1023, 1024,
 ];
 
 // 64 cycles, 3 runs, 256 widths and the wide ones. Of those a run has 8 cycles, since the model counts all pairs of stations.
 pub(crate) const CASES: usize = 64 * 3 * (256 + 16);
 
-pub(crate) fn case(e: usize, i: usize, p: Progress) -> Progress {
-    let width = width(i / 192 % 272);
-    let most = engine::most_picks(e, width);
-    if (most == 0) | ((256 < width) & (7 < i % 64)) {
-        return p;
+// An engine, the state that its last cycle left, and the generator.
+#[derive(Clone, Copy)]
+pub struct Run {
+    engine: Engine,
+    state: State,
+    generator: Generator,
+}
+
+impl Run {
+    // Before the first run.
+    pub(crate) fn new(engine: Engine) -> Run {
+        Run {
+            engine,
+            state: compare::state(0, 0, None),
+            generator: Generator(1),
+        }
     }
-    if i % 64 == 0 {
-        return cycle(e, i, first(e, width, most, i, p.seed), p);
+
+    // The case of a number. The numbers come in order.
+    pub(crate) fn case(&mut self, i: usize) -> Option<bool> {
+        let width = width(i / 192 % 272);
+        let most = self.engine.most_picks(width);
+        if most == 0 || (256 < width && 7 < i % 64) {
+            return None;
+        }
+        if i % 64 == 0 {
+            self.state = self.first(width, most, i % 192 == 0);
+        }
+        Some(self.cycle())
     }
-    let s = p.state;
-    cycle(e, i, s, p)
+
+    // The state at a run's start. The picks are 1 to `most`. The first run of three has no head, if the engine takes none.
+    fn first(&self, width: usize, most: usize, first_run: bool) -> State {
+        let draw = (self.generator.0 / 256) as usize;
+        let picks = (draw % 8 + 1).min(most);
+        let station = (draw / 8 % WIDEST).min(width.saturating_sub(1));
+        let headless = first_run && self.engine.takes(None);
+        compare::state(width, picks, (!headless).then_some(station))
+    }
+
+    // One cycle of a run.
+    fn cycle(&mut self) -> bool {
+        let mut requests = [0u8; WIDEST];
+        self.generator
+            .draw(&mut requests[..self.state.width.min(WIDEST)]);
+        let acknowledge = (self.generator.0 / 512 % 2) as u8;
+        let cycle = model::run(self.engine, self.state, &requests, acknowledge);
+        self.state = cycle.state;
+        cycle.same
+    }
 }
 
 // The widths by number: 1 to 256, and then the wide ones.
@@ -37,55 +72,23 @@ fn width(i: usize) -> usize {
     WIDE[(i - 256) % 16]
 }
 
-// One cycle of a run.
-fn cycle(e: usize, i: usize, s: State, p: Progress) -> Progress {
-    let mut requests = [0u8; WIDEST];
-    let seed = draw(p.seed, s.width, &mut requests);
-    let cycle = cycle_with(e, s, &requests, seed);
-    let state = cycle.state;
-    let mut p = p;
-    p.state = state;
-    p.seed = seed;
-    p.add(Outcome::Ran(cycle.same))
-}
+// A linear congruence modulo 2 to the 31st, by its last number. What is drawn of it is a part below its modulus, so that a cast
+// loses nothing.
+#[derive(Clone, Copy)]
+struct Generator(u64);
 
-fn cycle_with(e: usize, s: State, requests: &[u8; WIDEST], seed: u64) -> Cycle {
-    model::run(e, s, requests, (seed / 512 % 2) as u8)
-}
-
-// The state at a run's start. The picks are 1 to `most`. The first run of three has no head, if the engine takes none.
-fn first(e: usize, width: usize, most: usize, i: usize, seed: u64) -> State {
-    let draw = (seed / 256) as usize;
-    let picks = engine::lesser(draw % 8 + 1, most);
-    if (i % 192 == 0) & (e != engine::BUS) {
-        return State {
-            width,
-            picks,
-            head: Head::None,
-        };
+impl Generator {
+    // The next number.
+    fn next(&mut self) -> u64 {
+        self.0 = (self.0 % 2147483648 * 1103515245 + 12345) % 2147483648;
+        self.0
     }
-    State {
-        width,
-        picks,
-        head: Head::At(engine::lesser(draw / 8 % WIDEST, small::last(width))),
-    }
-}
 
-// Draws the requests of `width` stations. From cycle to cycle none, one, two or three in four of them ask, or all.
-fn draw(seed: u64, width: usize, requests: &mut [u8; WIDEST]) -> u64 {
-    let end = engine::lesser(width, WIDEST);
-    let mut seed = after(seed);
-    let dense = seed / 1024 % 5;
-    let mut i: usize = 0;
-    while i < end {
-        seed = after(seed);
-        requests[i] = (seed / 4096 % 4 < dense) as u8;
-        i += 1;
+    // Draws requests. From cycle to cycle none, one, two or three in four of them ask, or all.
+    fn draw(&mut self, requests: &mut [u8]) {
+        let dense = self.next() / 1024 % 5;
+        for request in requests.iter_mut() {
+            *request = u8::from(self.next() / 4096 % 4 < dense);
+        }
     }
-    seed
-}
-
-// The generator: a linear congruence modulo 2 to the 31st.
-fn after(seed: u64) -> u64 {
-    (seed % 2147483648 * 1103515245 + 12345) % 2147483648
 }

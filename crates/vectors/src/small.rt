@@ -1,62 +1,44 @@
 // Every input for small widths against the model: every head and none, every number of picks, every set of requests.
-ghost use Rattle.std.specs.Prelude.{◌≡◌, length};
-
-use crate::report::Outcome;
-use crate::{compare, engine, model};
-use arbiter::State;
-use rules::Head;
+use crate::conversions::byte;
+use crate::engine::Engine;
+use crate::{compare, model};
 
 // 256 sets of requests, 9 heads, 8 picks, 8 widths, 2 acknowledge bytes. Only the bus takes the second of these.
 pub(crate) const CASES: usize = 256 * 9 * 8 * 8 * 2;
 
-pub(crate) fn case(e: usize, i: usize) -> Outcome {
+// The case of a number, by an engine.
+pub(crate) fn case(engine: Engine, i: usize) -> Option<bool> {
     let set = i % 256;
-    let h = head(i / 256 % 9);
+    let head = head(i / 256 % 9);
     let picks = i / 2304 % 8 + 1;
     let width = i / 18432 % 8 + 1;
-    let acknowledge = i / 147456 % 2;
-    let sized = (set < 1 << width) & (picks <= engine::most_picks(e, width));
-    let headed = (compare::station(h) < width) & engine::takes(e, h);
-    if sized & headed & ((acknowledge == 0) | (e == engine::BUS)) {
-        let s = State {
-            width,
-            picks,
-            head: h,
-        };
-        let cycle = model::run(e, s, &spread(set), acknowledge as u8);
-        return Outcome::Ran(cycle.same);
+    let acknowledge = byte(i / 147456 % 2);
+    let sized = set < 1 << width && picks <= engine.most_picks(width);
+    let headed = is_within(head, width) && engine.takes(head);
+    if !sized || !headed || (acknowledge == 1 && engine != Engine::Bus) {
+        return None;
     }
-    Outcome::Skipped
+    let s = compare::state(width, picks, head);
+    Some(model::run(engine, s, &spread::<8>(set), acknowledge).same)
 }
 
 // The heads by number: 0 for none, and then the stations.
-pub(crate) fn head(i: usize) -> Head {
-    if i == 0 {
-        return Head::None;
-    }
-    Head::At(i - 1)
+pub(crate) fn head(i: usize) -> Option<usize> {
+    i.checked_sub(1)
 }
 
-// The last of `n` stations, 0 where there is none.
-pub(crate) fn last(n: usize) -> usize {
-    if n == 0 {
-        return 0;
-    }
-    n - 1
+// Whether a head is one of so many stations, or none.
+pub(crate) fn is_within(head: Option<usize>, width: usize) -> bool {
+    head.is_none_or(|station| station < width)
 }
 
 // A set of stations as request bytes: station i asks if bit i of the set is 1.
-pub(crate) fn spread(set: usize) -> [u8; 8]
-    ensures { 8 ≡ length result }
-{
-    [
-        (set % 2) as u8,
-        (set / 2 % 2) as u8,
-        (set / 4 % 2) as u8,
-        (set / 8 % 2) as u8,
-        (set / 16 % 2) as u8,
-        (set / 32 % 2) as u8,
-        (set / 64 % 2) as u8,
-        (set / 128 % 2) as u8,
-    ]
+pub(crate) fn spread<const N: usize>(set: usize) -> [u8; N] {
+    let mut requests = [0; N];
+    let mut rest = set;
+    for request in requests.iter_mut() {
+        *request = byte(rest % 2);
+        rest /= 2;
+    }
+    requests
 }

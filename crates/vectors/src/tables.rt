@@ -2,134 +2,127 @@
 // which the tree comes down to the station that it grants.
 ghost use Rattle.std.specs.Prelude.{◌<◌};
 
-use crate::report::Outcome;
-use crate::walk::Progress;
-use crate::{compare, pieces, small};
-use arbiter::State;
+use crate::{compare, small};
 use tree::Tree;
+
+// 000's table 2, 002's table II, 002's equation 13. Table II speaks of inner nodes alone, and always with a head.
+#[derive(Clone, Copy, Debug, PartialEq, Eq)]
+pub enum Table {
+    Table2,
+    TableII,
+    Equation13,
+}
 
 // 3 nodes on the way, 256 sets of requests, 9 heads.
 const NODES: usize = 3 * 256 * 9;
 
-// Then the 64 places of a table, whether each was met. A place is a pair of child values, 4 × left + right, in one of 4 columns:
-// the root and the other nodes with a head, and the same without.
-pub(crate) const CASES: usize = NODES + 64;
+// The places of a table, each a pair of child values, 4 × left + right, in one of 4 columns: the root and the other nodes with a
+// head, and the same without.
+const PLACES: usize = 64;
 
-// The tables by number: 000's table 2, 002's table II, 002's equation 13.
-const TABLE_II: usize = 1;
-
-const EQUATION: usize = 2;
-
-pub(crate) fn case(table: usize, i: usize, p: Progress) -> Progress {
-    if i < NODES {
-        return node(table, i, p);
-    }
-    let place = i % 64;
-    let met = (p.met >> place) % 2 == 1;
-    p.add(Outcome::Ran(expected(table, place) == met))
-}
-
-// A node on the way down, the lowest first. Where no one is granted no way is seen.
-fn node(table: usize, i: usize, p: Progress) -> Progress {
-    let h = small::head(i / 768 % 9);
-    let s = State {
-        width: 8,
-        picks: 1,
-        head: h,
-    };
-    let mut grants = [7u8; 8];
-    let mut nodes = [7u8; 16];
-    Tree(s).cycle(&small::spread(i / 3 % 256), &mut grants, &mut nodes);
-    let station = pieces::nth(&grants, 1, 0);
-    if station < 8 {
-        return judge(
-            table,
-            &nodes,
-            (8 + station) >> (i % 3),
-            compare::headed(h),
-            i,
-            p,
-        );
-    }
-    p
-}
-
-// The parent of a node through which the tree came down, against its table. Table II speaks of inner nodes alone, and always with
-// a head; the values that it gives are every node's.
-fn judge(
-    table: usize,
-    nodes: &[u8; 16],
-    node: usize,
-    headed: bool,
-    i: usize,
-    p: Progress,
-) -> Progress {
-    let parent = node / 2 % 8;
-    let inner = headed & (i % 3 == 1);
-    if (table == TABLE_II) & !inner {
-        return p;
-    }
-    let pair = 4 * ((nodes[2 * parent] % 4) as usize) + ((nodes[2 * parent + 1] % 4) as usize);
-    let place = 16 * column(parent, headed) + pair;
-    let valued = value(pair) == nodes[parent];
-    let mut p = p;
-    p.met = p.met | (1u64 << place);
-    p.add(Outcome::Ran(valued & (goes_right(table, place) == (node % 2 == 1))))
-}
-
-fn column(node: usize, headed: bool) -> usize
-    ensures { result < 4 }
-{
-    if headed & (node == 1) {
-        return 0;
-    }
-    if headed {
-        return 1;
-    }
-    if node == 1 {
-        return 2;
-    }
-    3
-}
-
-// Whether a table goes right.
-fn goes_right(table: usize, place: usize) -> bool
-    requires { place < 64 }
-{
-    if table == EQUATION {
-        return equation(place / 4 % 4, place % 4);
-    }
-    action(place) == b'R'
-}
+// The nodes, and then the places, whether each was met.
+pub(crate) const CASES: usize = NODES + PLACES;
 
 // 000's table 2, for each column. A point is a case that it calls impossible. In the second column it is 002's table II too.
-fn action(place: usize) -> u8
-    requires { place < 64 }
-{
-    let actions = b"..RR..LRLR..LL..\
-        .RRRLLLRLR..LL..\
-        RR..LL..........\
-        RR..LL..........";
-    actions[place]
+const ACTIONS: &[u8; PLACES] = b"..RR..LRLR..LL..\
+    .RRRLLLRLR..LL..\
+    RR..LL..........\
+    RR..LL..........";
+
+// A table, and which of its places were met.
+#[derive(Clone, Copy)]
+pub struct Walk {
+    table: Table,
+    met: [bool; PLACES],
 }
 
-// The value of a node in 002's table II. 9 where it has no row.
-fn value(pair: usize) -> u8
-    requires { pair < 16 }
+impl Walk {
+    // A table, none of whose places was met.
+    pub(crate) fn new(table: Table) -> Walk {
+        Walk {
+            table,
+            met: [false; PLACES],
+        }
+    }
+
+    // The case of a number. Those of all nodes come before those of the places.
+    pub(crate) fn case(&mut self, i: usize) -> Option<bool> {
+        if i < NODES {
+            return self.node(i);
+        }
+        let place = i % PLACES;
+        Some(self.table.expects(place) == self.met[place])
+    }
+
+    // The parent of a node on the way down, the lowest first, against its table. Where no one is granted no way is seen. The values
+    // of table II are every node's.
+    fn node(&mut self, i: usize) -> Option<bool> {
+        let head = small::head(i / 768 % 9);
+        let mut grants = [7u8; 8];
+        let mut nodes = [7u8; 16];
+        Tree(compare::state(8, 1, head)).cycle(
+            &small::spread::<8>(i / 3 % 256),
+            &mut grants,
+            &mut nodes,
+        );
+        let station = grants.iter().position(|grant| *grant == 1)?;
+        if self.table == Table::TableII && (head.is_none() || i % 3 != 1) {
+            return None;
+        }
+        let node = (8 + station % 8) >> (i % 3);
+        let parent = node / 2;
+        let (left, right) = (nodes[2 * parent] % 4, nodes[2 * parent + 1] % 4);
+        let place = place(head.is_some(), parent == 1, left, right);
+        self.met[place] = true;
+        let valued = value(left, right) == Some(nodes[parent]);
+        Some(valued && self.table.goes_right(place) == (node % 2 == 1))
+    }
+}
+
+// The place of a pair of child values, under the root or another node, with a head or without.
+fn place(headed: bool, root: bool, left: u8, right: u8) -> usize
+    ensures { result < 64 }
 {
-    let values = [9, 1, 2, 3, 1, 1, 2, 3, 2, 3, 9, 9, 3, 3, 9, 9];
-    values[pair]
+    let column = match (headed, root) {
+        (true, true) => 0,
+        (true, false) => 1,
+        (false, true) => 2,
+        (false, false) => 3,
+    };
+    16 * column + 4 * usize::from(left % 4) + usize::from(right % 4)
+}
+
+impl Table {
+    // Whether it goes right.
+    fn goes_right(self, place: usize) -> bool
+        requires { place < 64 }
+    {
+        if self == Table::Equation13 {
+            return equation(place / 4 % 4, place % 4);
+        }
+        ACTIONS[place] == b'R'
+    }
+
+    // Whether a place is to be met. The pair of two zeros cannot be: there no one asks.
+    fn expects(self, place: usize) -> bool
+        requires { place < 64 }
+    {
+        let spoken = self != Table::TableII || place / 16 == 1;
+        spoken && place % 16 != 0 && ACTIONS[place] != b'.'
+    }
+}
+
+// The value of a node in 002's table II, by those of its children. None where it has no row.
+fn value(left: u8, right: u8) -> Option<u8> {
+    match (left, right) {
+        (0 | 1, 1) | (1, 0) => Some(1),
+        (0 | 1, 2) | (2, 0) => Some(2),
+        (0 | 1, 3) | (2, 1) | (3, 0 | 1) => Some(3),
+        _ => None,
+    }
 }
 
 // 002's equation 13: the right's two bits are 1, or the left's are 0, or the left's S0 is 0 and the right's is 1.
 fn equation(left: usize, right: usize) -> bool {
-    (right == 3) | (left == 0) | ((left % 2 == 0) & (right % 2 == 1))
-}
-
-// Whether a place is to be met. The pair of two zeros cannot be: there no one asks.
-fn expected(table: usize, place: usize) -> bool
-    requires { place < 64 }
-{
-    let spoken = (table != TABLE_II) | (place / 16 == 1);
-    spoken & (place % 16 != 0) & (action(place) != b'.')
+    right == 3 || left == 0 || (left % 2 == 0 && right % 2 == 1)
 }

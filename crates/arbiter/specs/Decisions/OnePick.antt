@@ -2,8 +2,8 @@
 -- Assumes nothing.
 use Rattle.std.specs.Prelude.{ℕ, ◌-◌, ◌≤◌, ◌<◌, ◌≡◌, refl, Bool, List, [], ◌∷◌, ◌++◌, eqb, ltb, length}
 use Rattle.std.proofs.Common.{sym, ap, ◌∙◌, append-nil, arith, eq-eqb, ltb-true, ltb-false}
-use Rattle.rules.specs.declared.Head.{Head}
-use Rattle.rules.specs.declared.Head.TheVariants.{None, At}
+use Rattle.rules.specs.Head.{Head}
+use Rattle.std.specs.Prelude.{None, Some}
 use Rattle.rules.specs.Lists.{bit, range, filter, count}
 use Rattle.rules.specs.Lists.Laws as Lists
 use Rattle.rules.specs.RoundRobin.{start, order, granted}
@@ -13,12 +13,12 @@ use Rattle.arbiter.specs.Places.Laws.{first_none, first_some}
 use Rattle.arbiter.specs.Decisions.{requested}
 
 -- a list of one at most is its first
-first_only : (ps : List ℕ) (w : ℕ) → length ps ≤ 1 → first ps ≡ At w → ps ≡ w ∷ []
+first_only : (ps : List ℕ) (w : ℕ) → length ps ≤ 1 → first ps ≡ Some w → ps ≡ w ∷ []
 first_only ps w l e =
     let r = first_some ps w e in r.1 ∙ ap {B = List ℕ} (λ rest. w ∷ rest) (Lists.empty r.0 (omega (arith, ap length r.1)))
 
 -- what is first stays first where more follows
-pub first_append : (ps qs : List ℕ) (w : ℕ) → first ps ≡ At w → first (ps ++ qs) ≡ At w
+pub first_append : (ps qs : List ℕ) (w : ℕ) → first ps ≡ Some w → first (ps ++ qs) ≡ Some w
 first_append ps qs w e = ap (λ (l : List ℕ). first (l ++ qs)) (first_some ps w e).1
 
 module _ (n : ℕ) (h : Head) (asks : ℕ → Bool) (station : start h < n) where
@@ -27,7 +27,7 @@ module _ (n : ℕ) (h : Head) (asks : ℕ → Bool) (station : start h < n) wher
   asked_in_order = filter asks (order n h)
 
   -- they are stations
-  first_below : (w : ℕ) → first asked_in_order ≡ At w → w < n
+  first_below : (w : ℕ) → first asked_in_order ≡ Some w → w < n
   first_below w e =
       Lists.split (ltb w n)
       (λ l. ltb-true w n l)
@@ -66,16 +66,16 @@ module _ (n : ℕ) (h : Head) (asks : ℕ → Bool) (station : start h < n) wher
       ap first (all ∙ append-nil low ∙ sym ordered)
 
   -- nobody else is granted
-  pub only_granted : (w : ℕ) → first (granted n 1 h asks) ≡ At w → granted n 1 h asks ≡ w ∷ []
+  pub only_granted : (w : ℕ) → first (granted n 1 h asks) ≡ Some w → granted n 1 h asks ≡ w ∷ []
   only_granted w e = first_only (granted n 1 h asks) w (omega (arith, RoundRobin.granted_length n 1 h asks)) e
 
-  pub granted_below : (w : ℕ) → first (granted n 1 h asks) ≡ At w → w < n
+  pub granted_below : (w : ℕ) → first (granted n 1 h asks) ≡ Some w → w < n
   granted_below w e = first_below w (sym first_granted ∙ e)
 
 -- the same by a buffer's bytes
 module _ (n : ℕ) (h : Head) (bytes : List ℕ) (station : start h < n) (long : length bytes ≡ n) where
   -- a search from the head on finds whom the rule grants, or no one
-  pub found_high : (w : ℕ) → first (ones (start h) bytes) ≡ At w → At w ≡ first (granted n 1 h (requested bytes))
+  pub found_high : (w : ℕ) → first (ones (start h) bytes) ≡ Some w → Some w ≡ first (granted n 1 h (requested bytes))
   found_high w e =
       let asks = requested bytes in
       let s = start h in

@@ -3,7 +3,7 @@
 use Rattle.std.specs.Prelude.{ℕ, zero, suc, ◌+◌, ◌-◌, ◌≤◌, ◌<◌, max, ◌≡◌, refl, Bool, true, false, List, [], ◌∷◌, eqb, ltb, length, get_or, drop}
 use Rattle.std.proofs.Common.{sym, ap, ◌∙◌, add-one, arith, drop_of_length-le, drop-cons, eqb-true, ltb-true, ltb-false, lt-ltb, le-ltb, ne_eqb}
 use Rattle.std.proofs.lemmas.Bool.{eqb-false}
-use Rattle.rules.specs.declared.Head.TheVariants.{None, At}
+use Rattle.std.specs.Prelude.{None, Some}
 use Rattle.rules.specs.Lists.{range, filter}
 use Rattle.rules.specs.Lists.Laws as Lists
 use Rattle.arbiter.specs.Places.{places, first, Bits, highest}
@@ -14,7 +14,7 @@ first_none [] e = refl
 first_none (p ∷ ps) e = let z : ◌≡◌ {A = ℕ} 0 1 = cc in absurd (omega arith)
 
 -- and one with a first begins with it
-pub first_some : (ps : List ℕ) (w : ℕ) → first ps ≡ At w → (rest : List ℕ) × (ps ≡ w ∷ rest)
+pub first_some : (ps : List ℕ) (w : ℕ) → first ps ≡ Some w → (rest : List ℕ) × (ps ≡ w ∷ rest)
 first_some [] w e = let z : ◌≡◌ {A = ℕ} 0 1 = cc in absurd (omega arith)
 first_some (p ∷ ps) w e = let same : p ≡ w = cc in (ps, rw same)
 
@@ -99,7 +99,7 @@ pub record Found (test : ℕ → Bool) (from i : ℕ) (bytes : List ℕ) : Type 
   pub free : Free test from i bytes
   pub all : places test from bytes ≡ i ∷ places test (suc i) bytes
 
-pub found : (test : ℕ → Bool) (from i : ℕ) (bytes : List ℕ) → first (places test from bytes) ≡ At i → Found test from i bytes
+pub found : (test : ℕ → Bool) (from i : ℕ) (bytes : List ℕ) → first (places test from bytes) ≡ Some i → Found test from i bytes
 found test from i bytes e =
     let q = first_some (places test from bytes) i e in
     let r = Lists.first_of (λ k. test (get_or bytes k 0)) from (length bytes - from) i q.0 q.1 in

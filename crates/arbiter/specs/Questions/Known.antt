@@ -1,15 +1,14 @@
 -- 01, "Known turns", the lines on refusals, with some neighbours: what the questions say of them, by computing.
 -- Assumes nothing.
-use Rattle.std.specs.Prelude.{ℕ, ◌≡◌, refl, List, [], ◌∷◌, map}
+use Rattle.std.specs.Prelude.{ℕ, ◌≡◌, refl, List, [], ◌∷◌, map, None, Some}
 use Rattle.std.specs.Int.Count.{ones}
-use Rattle.rules.specs.declared.Head.TheVariants.{None, At}
 use Rattle.rules.specs.Thermometer.{code, is_code}
-use Rattle.arbiter.specs.declared.question.Verdict.{Verdict}
-use Rattle.arbiter.specs.Questions.{width, tree_width, picks, pick_count, one_pick, head, token, nodes_length, acknowledge, codes}
+use Rattle.arbiter.specs.Answers.{number_of}
+use Rattle.arbiter.specs.Questions.{Verdict, width, tree_width, picks, pick_count, one_pick, head, token, nodes_length, acknowledge, codes}
 
 -- the numbers of verdicts, 0 where nothing is refused
 abbrev numbers : List Verdict → List ℕ
-numbers vs = map (λ (v : Verdict). v.number) vs
+numbers vs = map (λ (v : Verdict). number_of v) vs
 
 -- 01: "Widths 0 and 257 give 1, 256 is served"; 02, N4: "1,025 now gives 1 and 257 is served"
 pub known_widths : numbers (width 0 ∷ width 1025 ∷ width 1024 ∷ width 257 ∷ width 256 ∷ width 1 ∷ []) ≡ 1 ∷ 1 ∷ 0 ∷ 0 ∷ 0 ∷ 0 ∷ []
@@ -30,7 +29,7 @@ pub known_one_pick : numbers (one_pick 0 ∷ one_pick 2 ∷ one_pick 1 ∷ []) �
 known_one_pick = refl
 
 -- without a head the bus is refused, and the other engines are not
-pub known_heads : numbers (head 4 None ∷ head 4 (At 4) ∷ head 4 (At 3) ∷ token 4 None ∷ token 4 (At 4) ∷ token 4 (At 3) ∷ []) ≡ 0 ∷ 4 ∷ 0 ∷ 4 ∷ 4 ∷ 0 ∷ []
+pub known_heads : numbers (head 4 None ∷ head 4 (Some 4) ∷ head 4 (Some 3) ∷ token 4 None ∷ token 4 (Some 4) ∷ token 4 (Some 3) ∷ []) ≡ 0 ∷ 4 ∷ 0 ∷ 4 ∷ 4 ∷ 0 ∷ []
 known_heads = refl
 
 -- a node buffer of 2N

@@ -2,7 +2,7 @@
 -- Assumes nothing.
 use Rattle.std.specs.Prelude.{Option, None, Some, Result, Ok, Err, OnOk, IfSome}
 use Rattle.std.proofs.Common.{◌≡◌, refl, ℕ, Bool, true, false, ◌≤◌, ◌<◌, List, [], ◌++◌, arith, length, take, sym, ap, ◌∙◌, subst, append-nil, length-take-le, ltb, ltb-true, ltb-false}
-use Rattle.std.proofs.lemmas.List.{take_at, take_all}
+use Rattle.std.proofs.lemmas.List.{take_at, take_all, length-replicate}
 use Rattle.std.specs.Io.KnownBytes.{Appends, Consumes, IsAtEnd}
 use Rattle.transcript.specs.Text as Text
 use Rattle.console.proofs.run.Goals as goal
@@ -43,7 +43,7 @@ front text out former n e is = ap (take n) is ∙ take_at text former n (sym e)
 
 pub returns : goal.returns
 returns g c =
-    let full = c.run-length.ensures.input_len in
+    let full : length c.read_full.new.buffer ≡ Text.read_size = c.read_full.auto.buffer ∙ length-replicate {A = ℕ} 65537 0 in
     printed c.write_all.result _ _ _ c.read_full.new.buffer _ c.in_ok-read.read
     (front _ _ _ _ c.run-length.ensures.value c.run-length.ensures.output_after)
     c.write_all.ensures.bytes

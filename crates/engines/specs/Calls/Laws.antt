@@ -3,16 +3,16 @@
 use Rattle.std.specs.Prelude.{ℕ, ◌*◌, ◌<◌, ◌≡◌, List, length}
 use Rattle.std.proofs.Math.Path.{refl, sym, ap}
 use Rattle.std.proofs.Common.{arith, eq-eqb}
-use Rattle.rules.specs.declared.Head.{Head}
+use Rattle.rules.specs.Head.{Head}
 use Rattle.rules.specs.RoundRobin.{start}
 use Rattle.arbiter.specs.declared.Answer.{Answer}
 use Rattle.arbiter.specs.declared.State.{State}
-use Rattle.arbiter.specs.declared.question.Verdict.{Verdict}
 use Rattle.arbiter.specs.Places.{Bits}
 use Rattle.arbiter.specs.Questions as Questions
-use Rattle.arbiter.specs.Questions.{◌then◌}
+use Rattle.arbiter.specs.Questions.{Verdict, ◌then◌}
 use Rattle.arbiter.specs.Questions.Laws as Asked
 use Rattle.arbiter.specs.Answers as Answers
+use Rattle.arbiter.specs.Answers.{number}
 use Rattle.arbiter.specs.Answers.Laws.{served_passed, passed_is, if_refused, writes_passed, writes_is, writes_refused, opened_passed, passed_opened}
 use Rattle.arbiter.specs.Cycle as RoundRobin
 use Rattle.tree.specs.Calls as Tree
@@ -31,11 +31,11 @@ pub record Served (s : State) (requests : List ℕ) (answer : Answer) (grants : 
 
 -- scan, thermometer arbiter and Kogge-Stone arbiter
 cycle_served : (s : State) (requests former : List ℕ)
-    → let o = RoundRobin.cycle s requests former in o.answer.number ≡ 0 → Served s requests o.answer o.written
+    → let o = RoundRobin.cycle s requests former in number o.answer ≡ 0 → Served s requests o.answer o.written
 cycle_served s requests former z =
     let v = RoundRobin.questions s requests (length former) in
     let p = writes_passed v s _ _ former z in
-    let r = Asked.ready s.width s.picks s.head requests (length former) refl p in
+    let r = Asked.ready s.width s.picks s.head requests (length former) p in
     let is = writes_is v s (RoundRobin.answer s requests) (RoundRobin.granting s requests) former p in
     record {
       allows = r.allows;
@@ -43,6 +43,11 @@ cycle_served s requests former z =
       answers = ap (λ (o : Answers.Outcome). o.answer) is;
       granted = ap (λ (o : Answers.Outcome). o.written) is;
     }
+
+cycle_refused : (s : State) (requests former : List ℕ)
+    → let o = RoundRobin.cycle s requests former in (number o.answer ≡ 0 → ⊥) → (o.answer.state ≡ s) × (o.written ≡ former)
+cycle_refused s requests former n =
+    writes_refused (RoundRobin.questions s requests (length former)) s (RoundRobin.answer s requests) (RoundRobin.granting s requests) former refl n
 
 -- a state that the tree serves, every engine of the rule serves
 as_allowed : {n m : ℕ} {h : Head} → TreeLaws.Allowed n m h → Asked.Allowed n m h
@@ -60,11 +65,11 @@ module _ (s : State) (requests former nodes : List ℕ) where
   abbrev questions : Verdict
   questions = Tree.questions s.width s.picks s.head requests (length former) (length nodes)
 
-  tree_served : let o = Tree.cycle s requests former nodes in o.answer.number ≡ 0 → Served s requests o.answer o.grants
+  tree_served : let o = Tree.cycle s requests former nodes in number o.answer ≡ 0 → Served s requests o.answer o.grants
   unfolding Tree.cycle
   tree_served z =
-      let p = served_passed questions _ _ (λ (o : Outcome). o.answer.number) refl z in
-      let r = TreeLaws.ready s.width s.picks s.head requests (length former) (length nodes) refl p in
+      let p = served_passed questions _ _ (λ (o : Outcome). number o.answer) (λ e. refl) z in
+      let r = TreeLaws.ready s.width s.picks s.head requests (length former) (length nodes) p in
       record {
         allows = as_allowed r.allows;
         asked = r.asked;
@@ -73,19 +78,16 @@ module _ (s : State) (requests former nodes : List ℕ) where
       }
 
   tree_refused : let o = Tree.cycle s requests former nodes in
-      (o.answer.number ≡ 0 → ⊥) → (o.answer.state ≡ s) × (o.grants ≡ former) × (o.nodes ≡ nodes)
+      (number o.answer ≡ 0 → ⊥) → (o.answer.state ≡ s) × (o.grants ≡ former) × (o.nodes ≡ nodes)
   unfolding Tree.cycle
   tree_refused n =
-      let fails : questions.number ≡ 0 → ⊥ = λ p. n (ap (λ (o : Outcome). o.answer.number) (passed_is questions _ _ p)) in
-      let is = sym (if_refused _ refl fails refl) in (
-        ap (λ (o : Outcome). o.answer.state) is,
-        ap (λ (o : Outcome). o.grants) is,
-        ap (λ (o : Outcome). o.nodes) is,
-      )
+      if_refused questions _ _ (λ (o : Outcome). (o.answer.state ≡ s) × (o.grants ≡ former) × (o.nodes ≡ nodes))
+      (λ p. n (ap (λ (o : Outcome). number o.answer) (passed_is questions _ _ p)))
+      (λ e. (refl, refl, refl))
 
 -- so every cycle is served by the rule
 pub engine_served : (e : Engine) (s : State) (requests former nodes : List ℕ)
-    → let o = cycle e s requests former nodes in o.answer.number ≡ 0 → Served s requests o.answer o.grants
+    → let o = cycle e s requests former nodes in number o.answer ≡ 0 → Served s requests o.answer o.grants
 engine_served Scan s requests former nodes z = cycle_served s requests former z
 engine_served Tree s requests former nodes z = tree_served s requests former nodes z
 engine_served Thermometer s requests former nodes z = cycle_served s requests former z
@@ -94,26 +96,26 @@ engine_served KoggeStone s requests former nodes z = cycle_served s requests for
 -- or changes nothing
 pub engine_refused : (e : Engine) (s : State) (requests former nodes : List ℕ)
     → let o = cycle e s requests former nodes in
-    (o.answer.number ≡ 0 → ⊥) → (o.answer.state ≡ s) × (o.grants ≡ former) × (o.nodes ≡ nodes)
-engine_refused Scan s requests former nodes n = let u = writes_refused _ s _ _ former refl n in (u.0, u.1, refl)
+    (number o.answer ≡ 0 → ⊥) → (o.answer.state ≡ s) × (o.grants ≡ former) × (o.nodes ≡ nodes)
+engine_refused Scan s requests former nodes n = let u = cycle_refused s requests former n in (u.0, u.1, refl)
 engine_refused Tree s requests former nodes n = tree_refused s requests former nodes n
-engine_refused Thermometer s requests former nodes n = let u = writes_refused _ s _ _ former refl n in (u.0, u.1, refl)
-engine_refused KoggeStone s requests former nodes n = let u = writes_refused _ s _ _ former refl n in (u.0, u.1, refl)
+engine_refused Thermometer s requests former nodes n = let u = cycle_refused s requests former n in (u.0, u.1, refl)
+engine_refused KoggeStone s requests former nodes n = let u = cycle_refused s requests former n in (u.0, u.1, refl)
 
 -- a state that an engine opens with any head, buffers of the right lengths and bytes that are bits: it serves the cycle
 module _ (s : State) (k : Head) (requests former nodes : List ℕ) (head : start s.head < s.width)
     (asked : length requests ≡ s.width) (room : length former ≡ s.width) (space : length nodes ≡ 2 * s.width)
     (wires : Bits requests) where
-  cycle_serves : (RoundRobin.opening s.width s.picks k).number ≡ 0 → (RoundRobin.cycle s requests former).answer.number ≡ 0
+  cycle_serves : number (RoundRobin.opening s.width s.picks k) ≡ 0 → number (RoundRobin.cycle s requests former).answer ≡ 0
   cycle_serves z =
       let before = Questions.width s.width then Questions.picks s.width s.picks in
       let p = Asked.head_moves before s.width k s.head (opened_passed _ s.width s.picks k z) head in
       let v = RoundRobin.questions s requests (length former) in
-      ap (λ (o : Answers.Outcome). o.answer.number)
+      ap (λ (o : Answers.Outcome). number o.answer)
       (writes_is v s (RoundRobin.answer s requests) (RoundRobin.granting s requests) former
-      (Asked.lends _ s.width requests (length former) p asked room wires))
+      (Asked.then_passed _ _ p (Asked.lends s.width requests (length former) asked room wires)))
 
-  tree_serves : (Tree.opening s.width s.picks k).number ≡ 0 → (Tree.cycle s requests former nodes).answer.number ≡ 0
+  tree_serves : number (Tree.opening s.width s.picks k) ≡ 0 → number (Tree.cycle s requests former nodes).answer ≡ 0
   unfolding Tree.cycle
   tree_serves z =
       let n = s.width in
@@ -122,22 +124,22 @@ module _ (s : State) (k : Head) (requests former nodes : List ℕ) (head : start
       let five = Asked.then_passed _ (Questions.read_length n (length requests)) four (rw (eq-eqb (length requests) n asked)) in
       let six = Asked.then_passed _ (Questions.write_length n (length former)) five (rw (eq-eqb (length former) n room)) in
       let seven = Asked.then_passed _ (Questions.nodes_length n (length nodes)) six (rw (eq-eqb (length nodes) (2 * n) space)) in
-      ap (λ (o : Outcome). o.answer.number)
+      ap (λ (o : Outcome). number o.answer)
       (passed_is (questions s requests former nodes) _ _ (Asked.then_passed _ (Questions.bits 0 requests) seven (Asked.bits_passes requests wires)))
 
-  pub engine_serves : (e : Engine) → (opening e s.width s.picks k).number ≡ 0
-      → (cycle e s requests former nodes).answer.number ≡ 0
+  pub engine_serves : (e : Engine) → number (opening e s.width s.picks k) ≡ 0
+      → number (cycle e s requests former nodes).answer ≡ 0
   engine_serves Scan z = cycle_serves z
   engine_serves Tree z = tree_serves z
   engine_serves Thermometer z = cycle_serves z
   engine_serves KoggeStone z = cycle_serves z
 
 -- whatever serves a cycle, the scan opens the state
-pub engine_opens : (s : State) → Asked.Allowed s.width s.picks s.head → (opening Scan s.width s.picks s.head).number ≡ 0
+pub engine_opens : (s : State) → Asked.Allowed s.width s.picks s.head → number (opening Scan s.width s.picks s.head) ≡ 0
 engine_opens s a = passed_opened _ s.width s.picks s.head (Asked.allows s.width s.picks s.head a)
 
 -- what is known of a state that an engine opens
-pub opens_allowed : (e : Engine) (n m : ℕ) (h : Head) → (opening e n m h).number ≡ 0 → Asked.Allowed n m h
+pub opens_allowed : (e : Engine) (n m : ℕ) (h : Head) → number (opening e n m h) ≡ 0 → Asked.Allowed n m h
 opens_allowed Scan n m h z = Asked.allowed n m h (opened_passed _ n m h z)
 opens_allowed Tree n m h z = as_allowed (TreeLaws.allowed n m h (opened_passed _ n m h z))
 opens_allowed Thermometer n m h z = Asked.allowed n m h (opened_passed _ n m h z)

@@ -5,21 +5,25 @@ use Rattle.std.proofs.Common.{sym, ap, ◌∙◌, arith, add-one, length-set, ge
 use Rattle.std.proofs.Math.Bool.{or-false}
 use Rattle.std.proofs.lemmas.List.{length-replicate, get_or-replicate}
 use Rattle.std.proofs.lemmas.Bool.{eqb-false}
-use Rattle.rules.specs.declared.Head.{Head}
-use Rattle.rules.specs.declared.Head.TheVariants.{None, At}
+use Rattle.rules.specs.Head.{Head}
+use Rattle.std.specs.Prelude.{None, Some, Ok, Err}
 use Rattle.rules.specs.Lists.{bit, range, member}
 use Rattle.rules.specs.Lists.Laws as Lists
 use Rattle.rules.specs.RoundRobin.{start}
 use Rattle.rules.proofs.RoundRobin.Laws.{start_at}
 use Rattle.arbiter.specs.Places.{places, ones, first}
-use Rattle.arbiter.specs.Places.Laws.{Free, places_none, places_first, free_of, first_none, found}
-use Rattle.arbiter.specs.Questions.{refuse_unless, refuse_at_first, one_hot}
-use Rattle.one_hot.specs.Calls.{image, head_of}
+use Rattle.arbiter.specs.Places.Laws.{Free, places_none, places_first, free_of, first_none, first_some, found}
+use Rattle.arbiter.specs.declared.refusal.Refusal.TheVariants.{SecondOne}
+use Rattle.arbiter.specs.declared.State.{State}
+use Rattle.arbiter.specs.Answers.{moved, served, refused, answered, if_passed}
+use Rattle.arbiter.specs.Decisions.{headed}
+use Rattle.arbiter.specs.Questions.{Verdict, passed, ◌then◌, refuse_at_first, one_hot}
+use Rattle.one_hot.specs.Calls.{image, head_of, questions, read}
 
 -- the head is at i
 here : Head → ℕ → Bool
 here None i = false
-here (At h) i = eqb i h
+here (Some h) i = eqb i h
 
 eqb_bit : (b : Bool) → eqb (bit b) 1 ≡ b
 eqb_bit true = refl
@@ -33,13 +37,13 @@ ltb_bit false = refl
 pub image_length : (n : ℕ) (h : Head) → length (image n h) ≡ n
 unfolding image
 image_length n None = length-replicate n 0
-image_length n (At h) = length-set (replicate n 0) h 1 ∙ length-replicate n 0
+image_length n (Some h) = length-set (replicate n 0) h 1 ∙ length-replicate n 0
 
 -- and 1 at the head alone
 image_at : (n : ℕ) (h : Head) (i : ℕ) → i < n → get_or (image n h) i 0 ≡ bit (here h i)
 unfolding image here
 image_at n None i l = get_or-replicate n i 0 0 l
-image_at n (At h) i l =
+image_at n (Some h) i l =
     Lists.split (eqb i h)
     (λ e.
     let same : i ≡ h = eqb-true i h e in
@@ -67,34 +71,34 @@ image_one n h i l =
 -- the place of its 1, if it has one
 place_of : Head → List ℕ
 place_of None = []
-place_of (At h) = h ∷ []
+place_of (Some h) = h ∷ []
 
 image_ones : (n : ℕ) (h : Head) → start h < n → ones 0 (image n h) ≡ place_of h
 unfolding here place_of
 image_ones n None l =
     let free : Free (λ b. eqb b 1) 0 (length (image n None)) (image n None) = record { at = λ i k u. image_one n None i u } in
     places_none free (omega arith)
-image_ones n (At h) l =
-    let size = image_length n (At h) in
-    let short : h < length (image n (At h)) = omega (arith, start_at h) in
-    let free : Free (λ b. eqb b 1) 0 h (image n (At h)) =
-    record { at = λ i k u. image_one n (At h) i (omega arith) ∙ ne_eqb i h (λ e. omega arith) } in
-    let rest : Free (λ b. eqb b 1) (suc h) (length (image n (At h))) (image n (At h)) =
-    record { at = λ i k u. image_one n (At h) i u ∙ ne_eqb i h (λ e. omega arith) } in
-    places_first free (omega arith) short (image_one n (At h) h short ∙ eq-eqb h h refl)
+image_ones n (Some h) l =
+    let size = image_length n (Some h) in
+    let short : h < length (image n (Some h)) = omega (arith, start_at h) in
+    let free : Free (λ b. eqb b 1) 0 h (image n (Some h)) =
+    record { at = λ i k u. image_one n (Some h) i (omega arith) ∙ ne_eqb i h (λ e. omega arith) } in
+    let rest : Free (λ b. eqb b 1) (suc h) (length (image n (Some h))) (image n (Some h)) =
+    record { at = λ i k u. image_one n (Some h) i u ∙ ne_eqb i h (λ e. omega arith) } in
+    places_first free (omega arith) short (image_one n (Some h) h short ∙ eq-eqb h h refl)
     ∙ ap {B = List ℕ} (λ ps. h ∷ ps) (places_none rest (omega arith))
 
 -- so it shows the head
 pub image_head : (n : ℕ) (h : Head) → start h < n → head_of (image n h) ≡ h
 unfolding place_of
 image_head n None l = ap first (image_ones n None l)
-image_head n (At h) l = ap first (image_ones n (At h) l)
+image_head n (Some h) l = ap first (image_ones n (Some h) l)
 
 -- and has no second 1
 pub image_single : (n : ℕ) (h : Head) → start h < n → drop 1 (ones 0 (image n h)) ≡ []
 unfolding place_of
 image_single n None l = ap (λ (ps : List ℕ). drop 1 ps) (image_ones n None l)
-image_single n (At h) l = ap (λ (ps : List ℕ). drop 1 ps) (image_ones n (At h) l)
+image_single n (Some h) l = ap (λ (ps : List ℕ). drop 1 ps) (image_ones n (Some h) l)
 
 -- of places that are at most one, a place is one of them exactly if it is the first
 here_first : (ps : List ℕ) (i : ℕ) → drop 1 ps ≡ [] → here (first ps) i ≡ member i ps
@@ -127,9 +131,29 @@ image_of bytes bits single =
     ∙ bit_byte (get_or bytes i 0) (free.at i (omega arith) u))
 
 -- an image with no 1
-pub one_hot_none : (image : List ℕ) → first (ones 0 image) ≡ None → one_hot image ≡ refuse_unless true 10 0
-one_hot_none image e = ap (λ (ps : List ℕ). refuse_at_first 10 (drop 1 ps)) (first_none (ones 0 image) e)
+pub one_hot_none : (image : List ℕ) → first (ones 0 image) ≡ None → one_hot image ≡ passed
+one_hot_none image e = ap (λ (ps : List ℕ). refuse_at_first SecondOne (drop 1 ps)) (first_none (ones 0 image) e)
 
 -- an image whose first 1 is at i: the second is the first after it
-pub one_hot_rest : (image : List ℕ) (i : ℕ) → first (ones 0 image) ≡ At i → one_hot image ≡ refuse_at_first 10 (ones (i + 1) image)
-one_hot_rest image i e = rw add-one (ap (λ (ps : List ℕ). refuse_at_first 10 (drop 1 ps)) (found (λ b. eqb b 1) 0 i image e).all)
+one_hot_rest : (image : List ℕ) (i : ℕ) → first (ones 0 image) ≡ Some i → one_hot image ≡ refuse_at_first SecondOne (ones (i + 1) image)
+one_hot_rest image i e = rw add-one (ap (λ (ps : List ℕ). refuse_at_first SecondOne (drop 1 ps)) (found (λ b. eqb b 1) 0 i image e).all)
+
+pub one_hot_single : (image : List ℕ) (i : ℕ) → first (ones 0 image) ≡ Some i → first (ones (i + 1) image) ≡ None → one_hot image ≡ passed
+one_hot_single image i e none = one_hot_rest image i e ∙ rw (first_none _ none)
+
+pub one_hot_second : (image : List ℕ) (i k : ℕ) → first (ones 0 image) ≡ Some i → first (ones (i + 1) image) ≡ Some k
+    → one_hot image ≡ Err (SecondOne k)
+one_hot_second image i k e some = one_hot_rest image i e ∙ rw (first_some _ k some).1
+
+-- it is within the image
+pub one_below : (image : List ℕ) (i : ℕ) → first (ones 0 image) ≡ Some i → i < length image
+one_below image i e = (found (λ b. eqb b 1) 0 i image e).high
+
+-- reading an image is a call that decides the head that it shows where its questions pass
+pub read_answered : (s : State) (bytes : List ℕ)
+    → answered s (questions s.width s.picks s.head bytes then Ok (headed (head_of bytes))) ≡ read s bytes
+read_answered s bytes = by (questions s.width s.picks s.head bytes)
+  where
+    by : (v : Verdict) → answered s (v then Ok (headed (head_of bytes))) ≡ if_passed v (served 0 (moved s (head_of bytes))) (λ refusal. refused refusal s)
+    by (Ok _) = refl
+    by (Err refusal) = refl

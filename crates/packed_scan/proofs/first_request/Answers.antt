@@ -1,10 +1,9 @@
 -- `first_request` meets its contract: by the table in the byte of its line, and then in the next byte that is not 0.
 -- Assumes nothing.
-use Rattle.std.specs.Prelude.{ℕ, ◌+◌, ◌*◌, ◌/◌, ◌<◌, ◌≡◌, List, ◌++◌, length, take}
-use Rattle.std.proofs.Common.{sym, ◌∙◌, arith}
-use Rattle.rules.specs.declared.Head.TheVariants.{At}
+use Rattle.std.proofs.Common.{ℕ, ◌+◌, ◌*◌, ◌/◌, ◌<◌, ◌≡◌, List, ◌++◌, Option, Some, length, take, get_or, sym, ◌∙◌, refl, arith}
 use Rattle.arbiter.specs.Places as Places
-use Rattle.packed_scan.specs.Lines.Laws.{set_home, some_entry, round_high, round_quiet, round_next, highest_zero, Next, next_some, next_none}
+use Rattle.packed_scan.specs.Lines.{listed}
+use Rattle.packed_scan.specs.Lines.Laws.{listed_some, listed_none, set_home, some_entry, round_high, round_next, Next, next_some}
 use Rattle.packed_scan.proofs.first_request.Goals as goal
 
 -- the byte of the first line is there
@@ -12,52 +11,49 @@ home : (requests : List ℕ) (line : ℕ) → line < 8 * length requests → lin
 home requests line l = omega (arith, l)
 
 -- and the next that is not 0
-next : (requests : List ℕ) (line k : ℕ) → line < 8 * length requests
-    → At k ≡ Places.first (Places.nonzero (line / 8 + 1) requests ++ Places.nonzero 0 (take (line / 8 + 1) requests)) → Next requests (line / 8) k
-next requests line k l e = next_some requests (line / 8) (home requests line l) k (sym e)
+next : {found : Option ℕ} (requests : List ℕ) (line k : ℕ) → line < 8 * length requests
+    → found ≡ Places.first (Places.nonzero (line / 8 + 1) requests ++ Places.nonzero 0 (take (line / 8 + 1) requests)) → found ≡ Some k
+    → Next requests (line / 8) k
+next requests line k l e f = next_some requests (line / 8) (home requests line l) k (sym e ∙ f)
 
-pub returns-then-line-lt8 : goal.returns-then-line-lt8
-returns-then-line-lt8 c =
-    let within = home c.args.requests.now c.args.first c.requires.first_bound in
+pub returns-in-Some : goal.returns-in-Some
+returns-in-Some c =
     let a = c.args in
-    let high = set_home a.requests.now a.first c.entry-line.result within c.entry-line.ensures c.if-line-lt8.true in
+    let line = c.in-Some.line in
+    let told = listed_some _ line (sym c.first_line.ensures ∙ c.in-Some.is) in
+    let high = set_home a.requests.now a.first line (home a.requests.now a.first c.requires.first_bound) told.0 told.1 in
     round_high a.requests.now a.first _ (sym high)
 
-pub returns-then-highest-eq0 : goal.returns-then-highest-eq0
-returns-then-highest-eq0 c =
-    let a = c.args in
-    round_quiet a.requests.now a.first (highest_zero a.requests.now (sym c.highest.ensures ∙ c.if-highest-eq0.true))
+pub bounds-requests-byte : goal.bounds-requests-byte
+bounds-requests-byte c = (next c.args.requests.now c.args.first c.in_ok-byte.byte c.requires.first_bound c.next_byte.ensures c.in_ok-byte.was).within
 
-pub next_byte-found-requires : goal.next_byte-found-requires
-next_byte-found-requires c =
-    home c.args.requests.now c.args.first c.requires.first_bound
-
-pub returns-in_default : goal.returns-in_default
-returns-in_default c =
-    let within = home c.args.requests.now c.args.first c.requires.first_bound in
+pub returns-in_err-line : goal.returns-in_err-line
+returns-in_err-line c =
     let a = c.args in
-    round_quiet a.requests.now a.first
-    (next_none a.requests.now (a.first / 8) within (sym c.next_byte-found.ensures ∙ c.in_default.is))
+    let k = c.in_ok-byte.byte in
+    let there = next a.requests.now a.first k c.requires.first_bound c.next_byte.ensures c.in_ok-byte.was in
+    let none = listed_none _ (sym c.first_line-2.ensures ∙ c.in_err-line.was) in
+    absurd (omega (arith, none, some_entry (get_or a.requests.now k 0) _ there.some (omega (arith, c.type_inv.requests k)) refl))
+
+-- the line of that byte
+found : {entry line : ℕ} {answer : Option ℕ} → answer ≡ listed entry → answer ≡ Some line → (line ≡ entry) × (line < 8)
+found e f = listed_some _ _ (sym e ∙ f)
 
 pub overflow_mul-result-2 : goal.overflow_mul-result-2
 overflow_mul-result-2 c =
-    let there = next c.args.requests.now c.args.first c.in-At.byte c.requires.first_bound c.in-At.ensures in
+    let there = next c.args.requests.now c.args.first c.in_ok-byte.byte c.requires.first_bound c.next_byte.ensures c.in_ok-byte.was in
     omega (arith, there.within, c.requires.requests_len_bound)
-
-pub bounds-requests-byte : goal.bounds-requests-byte
-bounds-requests-byte c =
-    let there = next c.args.requests.now c.args.first c.in-At.byte c.requires.first_bound c.in-At.ensures in
-    there.within
 
 pub overflow_add-result-2 : goal.overflow_add-result-2
 overflow_add-result-2 c =
-    let there = next c.args.requests.now c.args.first c.in-At.byte c.requires.first_bound c.in-At.ensures in
-    let below : c.entry.result < 8 = (some_entry _ _ there.some (omega (arith, c.type_inv.requests c.in-At.byte)) c.entry.ensures) in
-    omega (arith, below, there.within, c.requires.requests_len_bound)
+    let there = next c.args.requests.now c.args.first c.in_ok-byte.byte c.requires.first_bound c.next_byte.ensures c.in_ok-byte.was in
+    omega (arith, there.within, c.requires.requests_len_bound, (found {line = c.in_ok-line.line} c.first_line-2.ensures c.in_ok-line.was).1)
 
 pub returns : goal.returns
 returns c =
-    let there = next c.args.requests.now c.args.first c.in-At.byte c.requires.first_bound c.in-At.ensures in
-    let below : c.entry.result < 8 = (some_entry _ _ there.some (omega (arith, c.type_inv.requests c.in-At.byte)) c.entry.ensures) in
     let a = c.args in
-    round_next a.requests.now a.first c.entry-line.result _ _ (home c.args.requests.now c.args.first c.requires.first_bound) c.entry-line.ensures c.if-line-lt8.false there c.entry.ensures below
+    let within = home a.requests.now a.first c.requires.first_bound in
+    let there = next a.requests.now a.first c.in_ok-byte.byte c.requires.first_bound c.next_byte.ensures c.in_ok-byte.was in
+    let full = listed_none _ (sym c.first_line.ensures ∙ c.in_default.is) in
+    let told = found {line = c.in_ok-line.line} c.first_line-2.ensures c.in_ok-line.was in
+    round_next a.requests.now a.first _ _ _ within refl full there told.0 told.1

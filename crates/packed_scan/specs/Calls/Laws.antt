@@ -1,18 +1,18 @@
 -- Laws of the packed scan's calls: what is known once the questions have passed; and that a served cycle is the plain scan's on the
 -- unpacked wires.
 -- Assumes nothing.
-use Rattle.std.specs.Prelude.{ℕ, ◌/◌, ◌≡◌, refl, true, false, List, map, length}
+use Rattle.std.specs.Prelude.{ℕ, ◌/◌, ◌≡◌, List, map, length}
 use Rattle.std.proofs.Common.{sym, ap, ◌∙◌, arith}
 use Rattle.std.proofs.lemmas.List.{length-map}
-use Rattle.rules.specs.declared.Head.{Head}
-use Rattle.rules.specs.declared.Head.TheVariants.{None, At}
+use Rattle.rules.specs.Head.{Head}
+use Rattle.std.specs.Prelude.{None, Some, Err}
 use Rattle.rules.specs.Lists.Laws as Lists
 use Rattle.rules.specs.Packing.{packed_length}
-use Rattle.arbiter.specs.declared.question.Verdict.{Verdict}
+use Rattle.arbiter.specs.declared.refusal.Refusal.TheVariants.{UnusedBit}
 use Rattle.arbiter.specs.Places.{first, set_lines}
 use Rattle.arbiter.specs.Places.Laws.{first_none, first_some}
 use Rattle.arbiter.specs.Questions as Questions
-use Rattle.arbiter.specs.Questions.{refuse_unless, refuse_at_first, ◌then◌}
+use Rattle.arbiter.specs.Questions.{passed, refuse_at_first, ◌then◌}
 use Rattle.arbiter.specs.Questions.Laws.{then_served, width_served, one_pick_served, head_served, length_served, first_served, Allowed}
 use Rattle.packed_scan.specs.Calls.{state, questions}
 use Rattle.packed_scan.specs.Lines.{Packed}
@@ -22,7 +22,7 @@ pub record OnePick (n m : ℕ) (h : Head) : Type 0 where
   pub allows : Allowed n m h
   pub one : m ≡ 1
 
-pub one_pick_lem : (n m : ℕ) (h : Head) → (state n m h).number ≡ 0 → OnePick n m h
+pub one_pick_lem : (n m : ℕ) (h : Head) → state n m h ≡ passed → OnePick n m h
 one_pick_lem n m h z =
     let b = then_served (Questions.width n then Questions.one_pick m) (Questions.head n h) z in
     let a = then_served (Questions.width n) (Questions.one_pick m) b.0 in
@@ -46,28 +46,26 @@ pub record Sized (n m : ℕ) (h : Head) (asked size : ℕ) : Type 0 where
   pub long : asked ≡ packed_length n
   pub room : size ≡ packed_length n
 
-pub sized : {r : Verdict} (n m : ℕ) (h : Head) (asked size : ℕ)
-    → r ≡ (state n m h then Questions.read_length (packed_length n) asked then Questions.write_length (packed_length n) size) → r.number ≡ 0
+pub sized : (n m : ℕ) (h : Head) (asked size : ℕ)
+    → (state n m h then Questions.read_length (packed_length n) asked then Questions.write_length (packed_length n) size) ≡ passed
     → Sized n m h asked size
-sized n m h asked size e z =
+sized n m h asked size z =
     let five = state n m h then Questions.read_length (packed_length n) asked in
-    let b = then_served five (Questions.write_length (packed_length n) size) (ap (λ (v : Verdict). v.number) (sym e) ∙ z) in
+    let b = then_served five (Questions.write_length (packed_length n) size) z in
     let a = then_served (state n m h) (Questions.read_length (packed_length n) asked) b.0 in
-    let s = one_pick_lem n m h a.0 in
-    let is : asked ≡ packed_length n = length_served 4 (packed_length n) asked a.1 in
     record {
-      state = s;
-      long = is;
-      room = length_served 5 (packed_length n) size b.1;
+      state = one_pick_lem n m h a.0;
+      long = length_served _ (packed_length n) asked a.1;
+      room = length_served _ (packed_length n) size b.1;
     }
 
 -- 14 by the first line that is set and no station's, if there is one
-pub unused_none : (n : ℕ) (packed : List ℕ) → first (set_lines n packed) ≡ None → refuse_unless true 14 0 ≡ Questions.unused_bits n packed
-unused_none n packed e = sym (ap (λ (ls : List ℕ). refuse_at_first 14 (map (λ i. i / 8) ls)) (first_none (set_lines n packed) e))
+pub unused_none : (n : ℕ) (packed : List ℕ) → first (set_lines n packed) ≡ None → Questions.unused_bits n packed ≡ passed
+unused_none n packed e = ap (λ (ls : List ℕ). refuse_at_first UnusedBit (map (λ i. i / 8) ls)) (first_none (set_lines n packed) e)
 
-pub unused_at : (n : ℕ) (packed : List ℕ) (i : ℕ) → first (set_lines n packed) ≡ At i
-    → refuse_unless false 14 (i / 8) ≡ Questions.unused_bits n packed
-unused_at n packed i e = sym (ap (λ (ls : List ℕ). refuse_at_first 14 (map (λ i. i / 8) ls)) (first_some (set_lines n packed) i e).1)
+pub unused_at : (n : ℕ) (packed : List ℕ) (i k : ℕ) → first (set_lines n packed) ≡ Some i → i / 8 ≡ k
+    → Questions.unused_bits n packed ≡ Err (UnusedBit k)
+unused_at n packed i k e place = rw (← place) (ap (λ (ls : List ℕ). refuse_at_first UnusedBit (map (λ i. i / 8) ls)) (first_some (set_lines n packed) i e).1)
 
 -- and 14
 pub record Ready (n m : ℕ) (h : Head) (requests : List ℕ) (size : ℕ) : Type 0 where
@@ -75,13 +73,12 @@ pub record Ready (n m : ℕ) (h : Head) (requests : List ℕ) (size : ℕ) : Typ
   pub packed : Packed n requests
   pub room : size ≡ packed_length n
 
-pub ready : {r : Verdict} (n m : ℕ) (h : Head) (requests : List ℕ) (size : ℕ) → r ≡ questions n m h requests size → r.number ≡ 0
-    → Ready n m h requests size
-ready n m h requests size e z =
+pub ready : (n m : ℕ) (h : Head) (requests : List ℕ) (size : ℕ) → questions n m h requests size ≡ passed → Ready n m h requests size
+ready n m h requests size z =
     let unread = state n m h then Questions.read_length (packed_length n) (length requests) then Questions.write_length (packed_length n) size in
-    let c = then_served unread (Questions.unused_bits n requests) (ap (λ (v : Verdict). v.number) (sym e) ∙ z) in
-    let l = sized n m h (length requests) size refl c.0 in
-    let none = first_served 13 (map (λ i. i / 8) (set_lines n requests)) c.1 in
+    let c = then_served unread (Questions.unused_bits n requests) z in
+    let l = sized n m h (length requests) size c.0 in
+    let none = first_served _ (map (λ i. i / 8) (set_lines n requests)) c.1 in
     record {
       state = l.state;
       packed = record {

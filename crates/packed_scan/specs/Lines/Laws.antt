@@ -1,12 +1,13 @@
 -- Laws of the set lines of packed bytes: how a search by the table finds the first, and that it is whom the rule grants.
 -- Assumes nothing.
-use Rattle.std.specs.Prelude.{ℕ, ◌+◌, ◌-◌, ◌*◌, ◌/◌, ◌%◌, ◌^◌, ◌≤◌, ◌<◌, ◌≡◌, refl, Bool, true, ◌⊎◌, List, [], ◌∷◌, ◌++◌, eqb, ltb, length, get_or, take, set, replicate}
-use Rattle.std.proofs.Common.{sym, ap, ap₂, ◌∙◌, inl, inr, ⊎_elim, arith, length-take-le, get_or-take, eq-eqb, ltb-true, ltb-false}
-use Rattle.rules.specs.declared.Head.{Head}
-use Rattle.rules.specs.declared.Head.TheVariants.{None, At}
-use Rattle.rules.specs.Lists.{marks}
+use Rattle.std.specs.Prelude.{ℕ, ◌+◌, ◌-◌, ◌*◌, ◌/◌, ◌%◌, ◌^◌, ◌≤◌, ◌<◌, ◌≡◌, refl, Bool, true, ◌⊎◌, List, [], ◌∷◌, ◌++◌, map, eqb, ltb, length, get_or, take, set, replicate}
+use Rattle.std.proofs.lemmas.List.{get_or-map}
+use Rattle.std.proofs.Common.{sym, ap, ap₂, ◌∙◌, inl, inr, ⊎_elim, arith, zero-add, length-take-le, get_or-take, eq-eqb, ltb-true, ltb-false}
+use Rattle.rules.specs.Head.{Head}
+use Rattle.std.specs.Prelude.{None, Some}
+use Rattle.rules.specs.Lists.{range, marks}
 use Rattle.rules.specs.Lists.Laws as Lists
-use Rattle.rules.specs.Packing.{line, unpack, packed_length, pack, first_line}
+use Rattle.rules.specs.Packing.{line, unpack, packed_length, pack, first_line, entries}
 use Rattle.rules.proofs.Packing.Laws as Packing
 use Rattle.rules.specs.RoundRobin.{start, granted, grants}
 use Rattle.rules.proofs.RoundRobin.Laws as RoundRobin
@@ -15,11 +16,35 @@ use Rattle.arbiter.specs.Places.Laws.{first_none, Free, free_none, free_on, free
 use Rattle.arbiter.specs.Decisions.{requested, decision, deciding, counted}
 use Rattle.arbiter.specs.Decisions.Laws.{counted_one, decided_granted}
 use Rattle.arbiter.specs.Decisions.OnePick as OnePick
-use Rattle.packed_scan.specs.Lines.{Packed}
+use Rattle.packed_scan.specs.Lines.{Packed, listed}
 
 -- a line is set
 abbrev is_set : ℕ → Bool
 is_set b = eqb b 1
+
+-- a table whose rows are the definition's, one for each start line, has its entries
+pub table_entry : (rows : List (List ℕ)) (d : List ℕ) {byte start : ℕ} → rows ≡ map entries (range 0 8) → byte < 256 → start < 8
+    → get_or (get_or rows start d) byte 0 ≡ first_line byte start
+table_entry rows d {byte} {start} e small l =
+    let row : get_or rows start d ≡ entries start =
+    ap (λ (t : List (List ℕ)). get_or t start d) e ∙ get_or-map entries (range 0 8) start 0 d l ∙ ap entries (Lists.get_d_table (λ i. i) 0 8 start l ∙ zero-add start) in
+    Packing.entry_at start (get_or rows start d) row small refl
+
+-- an entry names a line exactly if it is below 8
+pub listed_some : (entry line : ℕ) → listed entry ≡ Some line → (line ≡ entry) × (line < 8)
+listed_some entry line e =
+    Lists.split (ltb entry 8)
+    (λ t.
+    let named : Some entry ≡ Some line = rw t at e in
+    let same : line ≡ entry = cc in
+    (same, omega (arith, ltb-true entry 8 t)))
+    (λ f. let none : None ≡ Some line = rw f at e in let no : ⊥ = cc in absurd no)
+
+pub listed_none : (entry : ℕ) → listed entry ≡ None → 8 ≤ entry
+listed_none entry e =
+    Lists.split (ltb entry 8)
+    (λ t. let some : Some entry ≡ None = rw t at e in let no : ⊥ = cc in absurd no)
+    (λ f. ltb-false entry 8 f)
 
 module _ (packed : List ℕ) where
   -- all the lines of these bytes
@@ -74,7 +99,7 @@ module _ (packed : List ℕ) where
 
   module _ (from entry : ℕ) (within : from / 8 < length packed) (is : entry ≡ first_line (get_or packed (from / 8) 0) (from % 8)) where
     -- in the byte of that line
-    pub set_home : entry < 8 → At (8 * (from / 8) + entry) ≡ first (set_lines from packed)
+    pub set_home : entry < 8 → Some (8 * (from / 8) + entry) ≡ first (set_lines from packed)
     set_home below =
         let home : 8 * (from / 8) + from % 8 ≡ from = omega arith in
         let e = Packing.entry (get_or packed (from / 8) 0) (from % 8) (omega arith) in
@@ -99,7 +124,7 @@ module _ (packed : List ℕ) where
 
     -- or in the first of these that is not 0
     pub set_after : 8 ≤ entry → (k line : ℕ) → Found (ltb 0) (from / 8 + 1) k packed → line ≡ first_line (get_or packed k 0) 0 → line < 8
-        → At (8 * k + line) ≡ first (set_lines from packed)
+        → Some (8 * k + line) ≡ first (set_lines from packed)
     set_after full k line hit e below =
         let zeros = zero_free (from / 8 + 1) k (omega (arith, hit.high)) hit.free in
         let here = rw (← e) at (entry_free k 0 hit.high (omega arith)) in
@@ -114,7 +139,7 @@ some_entry byte line some small e = omega (arith, e, Packing.some_line byte some
 
 -- from the first line on: in the first byte that is not 0
 set_first : (packed : List ℕ) (k line : ℕ) → Found (ltb 0) 0 k packed → line ≡ first_line (get_or packed k 0) 0 → line < 8
-    → At (8 * k + line) ≡ first (set_lines 0 packed)
+    → Some (8 * k + line) ≡ first (set_lines 0 packed)
 set_first packed k line hit e below =
     let zeros = zero_free packed 0 k (omega (arith, hit.high)) hit.free in
     let start : 8 * k + 0 ≡ 8 * k = omega arith in
@@ -157,7 +182,7 @@ module _ (packed : List ℕ) (home : ℕ) (within : home < length packed) where
   upto_length : length upto_home ≡ home + 1
   upto_length = length-take-le (home + 1) packed (omega arith)
 
-  next_by : (ps : List ℕ) (k : ℕ) → above ≡ ps → first (ps ++ nonzero 0 upto_home) ≡ At k → Next packed home k
+  next_by : (ps : List ℕ) (k : ℕ) → above ≡ ps → first (ps ++ nonzero 0 upto_home) ≡ Some k → Next packed home k
   next_by [] k none e =
       let hit = found (ltb 0) 0 k upto_home e in
       let same : get_or upto_home k 0 ≡ get_or packed k 0 = get_or-take (home + 1) packed k 0 (omega (arith, upto_length, hit.high)) in
@@ -170,7 +195,7 @@ module _ (packed : List ℕ) (home : ℕ) (within : home < length packed) where
       let hit = found (ltb 0) (home + 1) k packed (ap first some ∙ e) in
       record { within = hit.high; some = ltb-true 0 (get_or packed k 0) hit.passes; found = inl hit }
 
-  pub next_some : (k : ℕ) → first (above ++ nonzero 0 upto_home) ≡ At k → Next packed home k
+  pub next_some : (k : ℕ) → first (above ++ nonzero 0 upto_home) ≡ Some k → Next packed home k
   next_some k e = next_by above k refl e
 
   -- it finds none: every byte is 0
@@ -192,8 +217,8 @@ module _ (packed : List ℕ) (home : ℕ) (within : home < length packed) where
   next_none e = none_by above refl e
 
 -- once round: a search from a line on that finds one
-pub round_high : (packed : List ℕ) (from w : ℕ) → first (set_lines from packed) ≡ At w
-    → At w ≡ first (set_lines from packed ++ set_lines 0 packed)
+pub round_high : (packed : List ℕ) (from w : ℕ) → first (set_lines from packed) ≡ Some w
+    → Some w ≡ first (set_lines from packed ++ set_lines 0 packed)
 round_high packed from w e = sym (OnePick.first_append (set_lines from packed) (set_lines 0 packed) w e)
 
 -- and one that finds none: then none is set from there on, and the bytes up to that line's are enough
@@ -234,7 +259,7 @@ module _ (packed : List ℕ) (from : ℕ) (within : from < 8 * length packed) (n
 pub round_next : (packed : List ℕ) (from entry k line : ℕ) (within : from / 8 < length packed)
     → entry ≡ first_line (get_or packed (from / 8) 0) (from % 8) → 8 ≤ entry → Next packed (from / 8) k
     → line ≡ first_line (get_or packed k 0) 0 → line < 8
-    → At (8 * k + line) ≡ first (set_lines from packed ++ set_lines 0 packed)
+    → Some (8 * k + line) ≡ first (set_lines from packed ++ set_lines 0 packed)
 round_next packed from entry k line within is full next e below =
     ⊎_elim
     (λ hit.
@@ -276,7 +301,7 @@ module _ (n : ℕ) (packed : List ℕ) (p : Packed n packed) where
     granted_by None e =
         ap (λ (high : List ℕ). first (high ++ ones 0 wires)) (first_none (ones (start h) wires) e)
         ∙ OnePick.found_low n h wires station (Packing.unpack_length n packed) e
-    granted_by (At w) e =
+    granted_by (Some w) e =
         OnePick.first_append (ones (start h) wires) (ones 0 wires) w e
         ∙ OnePick.found_high n h wires station (Packing.unpack_length n packed) w e
 
@@ -295,7 +320,7 @@ module _ (n : ℕ) (packed : List ℕ) (p : Packed n packed) where
       none_grants = sym (ap pack (RoundRobin.grants_marks n 1 h (requested wires) ∙ ap (marks n) nobody) ∙ Packing.pack_none n)
 
     -- it is station w: that is granted, and nobody else
-    module _ (w : ℕ) (e : first (set_lines (start h) packed ++ set_lines 0 packed) ≡ At w) where
+    module _ (w : ℕ) (e : first (set_lines (start h) packed ++ set_lines 0 packed) ≡ Some w) where
       only : granted n 1 h (requested wires) ≡ w ∷ []
       only = OnePick.only_granted n h (requested wires) station w (sym round_granted ∙ e)
 

@@ -3,11 +3,11 @@
 -- Assumes nothing.
 use Rattle.std.specs.Prelude.{ℕ, suc, ◌+◌, ◌-◌, ◌%◌, ◌≤◌, ◌<◌, ◌≡◌, refl, Bool, true, false, cond, ◌&&◌, List, [], ◌∷◌, ◌++◌, ltb, eqb, length, get_or, take}
 use Rattle.std.proofs.Common.{sym, ap, ◌∙◌, append_assoc, arith, mod-lt, ltb-true, ltb-false, eq-eqb, length-append}
-use Rattle.rules.specs.declared.Head.{Head}
-use Rattle.rules.specs.declared.Head.TheVariants.{At}
+use Rattle.rules.specs.Head.{Head}
+use Rattle.std.specs.Prelude.{None, Some, unwrap_or}
 use Rattle.rules.specs.Lists.{bit, range, filter, count, member, before}
 use Rattle.rules.specs.Lists.Laws as Lists
-use Rattle.rules.specs.RoundRobin.{start, order, granted, grants, next}
+use Rattle.rules.specs.RoundRobin.{start, order, granted, grants, after, next}
 pub use Rattle.rules.specs.RoundRobin.Laws.{start_none, start_at, order_runs, after_last, after_head, order_count, order_turned, granted_inside, granted_only, granted_length, granted_cut, grants_length, grants_member, grants_marks, granted_once, next_after, after_one, after_stays, after_none}
 
 -- a station stands in the order once
@@ -32,7 +32,7 @@ order_length n h l =
 
 -- the order that starts at w's successor is the order turned until w is last
 pub order_rotated : (n : ℕ) (h : Head) (front : List ℕ) (w : ℕ) (back : List ℕ) → start h < n → order n h ≡ front ++ w ∷ back
-    → order n (At ((w + 1) % n)) ≡ back ++ (front ++ (w ∷ []))
+    → order n (Some ((w + 1) % n)) ≡ back ++ (front ++ (w ∷ []))
 order_rotated n h [] w back l e =
     let t = order_turned n h l in
     let f : w ≡ start h = cc (e, t.1) in
@@ -42,8 +42,8 @@ order_rotated n h (x ∷ front) w back l e =
     let t = order_turned n h l in
     let f : start h ≡ x = cc (e, t.1) in
     let r : t.0 ≡ front ++ w ∷ back = cc (e, t.1) in
-    let there : order n (At ((start h + 1) % n)) ≡ front ++ w ∷ (back ++ (x ∷ [])) = t.2 ∙ rw (r, f) (append_assoc front (w ∷ back) (x ∷ [])) in
-    order_rotated n (At ((start h + 1) % n)) front w (back ++ (x ∷ [])) (rw start_at (mod-lt (start h + 1) (omega arith))) there
+    let there : order n (Some ((start h + 1) % n)) ≡ front ++ w ∷ (back ++ (x ∷ [])) = t.2 ∙ rw (r, f) (append_assoc front (w ∷ back) (x ∷ [])) in
+    order_rotated n (Some ((start h + 1) % n)) front w (back ++ (x ∷ [])) (rw start_at (mod-lt (start h + 1) (omega arith))) there
     ∙ append_assoc back (x ∷ []) (front ++ (w ∷ []))
 
 -- nobody stands before the first station
@@ -156,7 +156,7 @@ grants_count n m h asks l =
 
 -- the next head is one past the one granted last, modulo n
 pub next_last : (n m : ℕ) (h : Head) (asks : ℕ → Bool) (front : List ℕ) (w : ℕ) → granted n m h asks ≡ front ++ (w ∷ [])
-    → next n m h asks ≡ At ((w + 1) % n)
+    → next n m h asks ≡ Some ((w + 1) % n)
 next_last n m h asks front w e = next_after n m h asks (front ++ (w ∷ [])) e ∙ after_last n h front w
 
 -- a cycle that grants cuts the order at the one granted last: those before it that ask are granted too, and the next order
@@ -167,7 +167,7 @@ pub record Cut (n m : ℕ) (h : Head) (asks : ℕ → Bool) : Type 0 where
   pub back : List ℕ
   pub order_is : order n h ≡ front ++ final ∷ back
   pub granted_is : granted n m h asks ≡ filter asks front ++ (final ∷ [])
-  pub next_is : next n m h asks ≡ At ((final + 1) % n)
+  pub next_is : next n m h asks ≡ Some ((final + 1) % n)
   pub order_next : order n (next n m h asks) ≡ back ++ (front ++ (final ∷ []))
 
 -- every cycle that grants does so
@@ -177,7 +177,7 @@ cut n m h asks l some =
     let r = Lists.passing asks (order n h) (length (granted n m h asks) - 1) (omega arith) in
     let is : granted n m h asks ≡ filter asks r.front ++ (r.here ∷ []) =
     granted_cut n m h asks r.front r.here r.back r.is r.passes (omega (arith, r.earlier)) in
-    let to : next n m h asks ≡ At ((r.here + 1) % n) = next_last n m h asks (filter asks r.front) r.here is in
+    let to : next n m h asks ≡ Some ((r.here + 1) % n) = next_last n m h asks (filter asks r.front) r.here is in
     record {
       front = r.front;
       final = r.here;
@@ -189,6 +189,15 @@ cut n m h asks l some =
     }
 
 -- no cycle ends without a head, and the head is a station
-pub next_head : (n m : ℕ) (h : Head) (asks : ℕ → Bool) → start h < n → (k : ℕ) × (k < n) × (next n m h asks ≡ At k)
+pub next_head : (n m : ℕ) (h : Head) (asks : ℕ → Bool) → start h < n → (k : ℕ) × (k < n) × (next n m h asks ≡ Some k)
 next_head n m h asks l =
     let there = after_head n h (granted n m h asks) l in (there.0, there.1, next_after n m h asks (granted n m h asks) refl ∙ there.2)
+
+-- both cases of a head at once
+pub start_is : (h : Head) → start h ≡ unwrap_or h 0
+start_is None = start_none
+start_is (Some h) = start_at h
+
+pub after_idle : (n : ℕ) (h : Head) → after n h [] ≡ Some (unwrap_or h (n - 1))
+after_idle n None = after_none n
+after_idle n (Some h) = after_stays n h

@@ -4,7 +4,7 @@ use Rattle.std.specs.Prelude.{ℕ, zero, suc, ◌+◌, ◌-◌, ◌^◌, ◌≤�
 use Rattle.std.proofs.Common.{sym, ap, ◌∙◌, arith, zero-add, add-zero, pow_mono, pow_pos, ext_get_or, leb-true, le-leb, eqb-true, eq-eqb, ltb-true, ltb-false, lt-ltb, le-ltb}
 use Rattle.std.specs.Int.Count.{ones, ones-ones}
 use Rattle.std.proofs.Math.Pow.{pow-lt}
-use Rattle.rules.specs.declared.Head.{Head}
+use Rattle.rules.specs.Head.{Head}
 use Rattle.rules.specs.Lists.{bit, count, before}
 use Rattle.rules.specs.Lists.Laws as Lists
 use Rattle.rules.specs.RoundRobin.{start, order}

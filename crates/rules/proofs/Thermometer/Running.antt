@@ -10,8 +10,8 @@ use Rattle.std.specs.Int.Count.{ones}
 use Rattle.std.proofs.Math.ListN.{length-map, get_or-append}
 use Rattle.std.proofs.Math.Seq.{take-append-add, get_or-append_seam, ext_get_or}
 use borrow.Author.Tests.{ltb-true, ltb-false}
-use Rattle.rules.specs.declared.Head.{Head}
-use Rattle.rules.specs.declared.Head.TheVariants.{At}
+use Rattle.rules.specs.Head.{Head}
+use Rattle.std.specs.Prelude.{Some}
 use Rattle.rules.specs.Lists.{bit, range, filter, count, before}
 use Rattle.rules.specs.Lists.Laws as Lists
 use Rattle.rules.specs.RoundRobin.{start, order, granted, next}
@@ -133,7 +133,7 @@ module _ (n m : ℕ) (h : Head) (asks : ℕ → Bool) (station : start h ≤ n) 
   -- the station past which the code is that past the last, and before which it is not, was granted last
   pub code_last : (w : ℕ) → w < n
       → let p = length (before w (order n h)) in
-      (get_or cs p 0 ≡ get_or cs n 0 → ⊥) → get_or cs (suc p) 0 ≡ get_or cs n 0 → next n m h asks ≡ At ((w + 1) % n)
+      (get_or cs p 0 ≡ get_or cs n 0 → ⊥) → get_or cs (suc p) 0 ≡ get_or cs n 0 → next n m h asks ≡ Some ((w + 1) % n)
   code_last w l less same =
       let p = length (before w (order n h)) in
       let inside = RoundRobin.before_length n h w station l in

@@ -8,8 +8,8 @@ use Rattle.std.proofs.Math.Nat.{zero-add}
 use native.Mathlib.Omega.{arith}
 use Rattle.std.proofs.Math.ListN.{get_or}
 use borrow.Author.Tests.{eqb-true, eqb-false, ltb-true, ltb-false, lt-ltb, le-ltb}
-use Rattle.rules.specs.declared.Head.{Head}
-use Rattle.rules.specs.declared.Head.TheVariants.{None}
+use Rattle.rules.specs.Head.{Head}
+use Rattle.std.specs.Prelude.{None}
 use Rattle.rules.specs.Lists.{range, filter, member}
 use Rattle.rules.specs.Lists.Laws as Lists
 use Rattle.rules.specs.Tree.{value, s1, s0, head_at, leaf, join, joined, nodes, goes_right, child, descend, reached}

@@ -5,8 +5,8 @@ use Rattle.std.proofs.Common.{sym, ap, ◌∙◌, zero-add, arith, length-set, g
 use Rattle.std.proofs.Math.Bool.{and-false}
 use Rattle.std.proofs.lemmas.List.{length-replicate, get_or-replicate}
 use Rattle.std.proofs.lemmas.Bool.{eqb-false}
-use Rattle.rules.specs.declared.Head.{Head}
-use Rattle.rules.specs.declared.Head.TheVariants.{At}
+use Rattle.rules.specs.Head.{Head}
+use Rattle.std.specs.Prelude.{Some}
 use Rattle.rules.specs.Lists.{bit, range, filter, count, before}
 use Rattle.rules.specs.Lists.Laws as Lists
 use Rattle.rules.specs.RoundRobin.{start, order, granted, grants, next}
@@ -126,7 +126,7 @@ pub record Walked (n m : ℕ) (h : Head) (asks : ℕ → Bool) (c z : ℕ) (new 
   pub counted : c ≡ length (granted n m h asks)
   pub bytes : new ≡ grants n m h asks
   pub within : 0 < c → z < n
-  pub last : 0 < c → next n m h asks ≡ At ((z + 1) % n)
+  pub last : 0 < c → next n m h asks ≡ Some ((z + 1) % n)
 
 -- a run is told by where it begins and ends, and by the buffer before it
 pub told : {m from to a b c₀ z₀ c z : ℕ} {asks : ℕ → Bool} {old was new : List ℕ} → from ≡ a → to ≡ b → old ≡ was

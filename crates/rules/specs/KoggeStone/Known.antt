@@ -3,7 +3,7 @@
 -- Assumes nothing.
 use Rattle.std.specs.Prelude.{ℕ, ◌≡◌, refl, Bool, ◌||◌, List, [], ◌∷◌, map, eqb}
 use Rattle.std.specs.Int.Count.{ones}
-use Rattle.rules.specs.declared.Head.TheVariants.{At}
+use Rattle.std.specs.Prelude.{Some}
 use Rattle.rules.specs.RoundRobin.{order}
 use Rattle.rules.specs.Thermometer.{code, add, inputs}
 use Rattle.rules.specs.KoggeStone.{distances, joined, levels, network, counts, count_before}
@@ -20,16 +20,16 @@ asks w = eqb w 0 || eqb w 1 || eqb w 3
 
 -- level by level: what goes in, and the codes joined at 1, at 2 and at 4
 abbrev pub in_order : List ℕ
-in_order = inputs 5 3 (At 3) asks
+in_order = inputs 5 3 (Some 3) asks
 
 pub known_levels_given : in_order ≡ 1 ∷ 0 ∷ 1 ∷ 1 ∷ 0 ∷ []
-    → in_order ∷ levels 3 (1 ∷ []) in_order ∷ levels 3 (1 ∷ 2 ∷ []) in_order ∷ network 5 3 (At 3) asks ∷ []
+    → in_order ∷ levels 3 (1 ∷ []) in_order ∷ levels 3 (1 ∷ 2 ∷ []) in_order ∷ network 5 3 (Some 3) asks ∷ []
     ≡ (1 ∷ 0 ∷ 1 ∷ 1 ∷ 0 ∷ []) ∷ (1 ∷ 1 ∷ 1 ∷ 3 ∷ 1 ∷ []) ∷ (1 ∷ 1 ∷ 3 ∷ 7 ∷ 3 ∷ []) ∷ (1 ∷ 1 ∷ 3 ∷ 7 ∷ 7 ∷ []) ∷ []
 unfolding network levels joined distances add code ones
 known_levels_given e = rw e refl
 
 -- the counts before stations 0 to 4
-pub known_counts_given : in_order ≡ 1 ∷ 0 ∷ 1 ∷ 1 ∷ 0 ∷ [] → order 5 (At 3) ≡ 3 ∷ 4 ∷ 0 ∷ 1 ∷ 2 ∷ []
-    → map (count_before 5 3 (At 3) asks) (0 ∷ 1 ∷ 2 ∷ 3 ∷ 4 ∷ []) ≡ 1 ∷ 3 ∷ 7 ∷ 0 ∷ 1 ∷ []
+pub known_counts_given : in_order ≡ 1 ∷ 0 ∷ 1 ∷ 1 ∷ 0 ∷ [] → order 5 (Some 3) ≡ 3 ∷ 4 ∷ 0 ∷ 1 ∷ 2 ∷ []
+    → map (count_before 5 3 (Some 3) asks) (0 ∷ 1 ∷ 2 ∷ 3 ∷ 4 ∷ []) ≡ 1 ∷ 3 ∷ 7 ∷ 0 ∷ 1 ∷ []
 unfolding count_before counts network levels joined distances add code ones
 known_counts_given e f = rw (e, f) refl

@@ -1,8 +1,8 @@
 -- 01, "Known turns": the twelve starred entries, as one list, and the claim that the rules give every one of them.
 -- Assumes nothing.
 use Rattle.std.specs.Prelude.{ℕ, Bool, ◌&&◌, List, [], ◌∷◌, ◌≡◌, refl, eqb}
-use Rattle.rules.specs.declared.Head.{Head}
-use Rattle.rules.specs.declared.Head.TheVariants.{None, At}
+use Rattle.rules.specs.Head.{Head}
+use Rattle.std.specs.Prelude.{None, Some}
 use Rattle.rules.specs.Lists.{count, member, same}
 use Rattle.rules.specs.RoundRobin.{start, order, granted, after, next}
 use Rattle.rules.specs.Tree.{value, s1, s0, head_at, leaf, join, joined, nodes}
@@ -18,18 +18,18 @@ pub data Entry : Type 0 where
 -- the entries in 01's order
 pub starred : List Entry
 starred =
-    turn 4 1 (At 2) (0 ∷ 1 ∷ []) (0 ∷ []) 1
-    ∷ turn 4 1 (At 3) (3 ∷ []) (3 ∷ []) 0
-    ∷ turn 4 1 (At 1) [] [] 1
+    turn 4 1 (Some 2) (0 ∷ 1 ∷ []) (0 ∷ []) 1
+    ∷ turn 4 1 (Some 3) (3 ∷ []) (3 ∷ []) 0
+    ∷ turn 4 1 (Some 1) [] [] 1
     ∷ turn 4 1 None [] [] 3
     ∷ turn 4 1 None (2 ∷ 3 ∷ []) (2 ∷ []) 3
     ∷ turn 1 1 None [] [] 0
-    ∷ turn 4 3 (At 2) (0 ∷ 2 ∷ []) (2 ∷ 0 ∷ []) 1
-    ∷ turn 4 2 (At 3) (0 ∷ 1 ∷ 2 ∷ 3 ∷ []) (3 ∷ 0 ∷ []) 1
-    ∷ turn 4 4 (At 2) (0 ∷ 1 ∷ 2 ∷ 3 ∷ []) (2 ∷ 3 ∷ 0 ∷ 1 ∷ []) 2
+    ∷ turn 4 3 (Some 2) (0 ∷ 2 ∷ []) (2 ∷ 0 ∷ []) 1
+    ∷ turn 4 2 (Some 3) (0 ∷ 1 ∷ 2 ∷ 3 ∷ []) (3 ∷ 0 ∷ []) 1
+    ∷ turn 4 4 (Some 2) (0 ∷ 1 ∷ 2 ∷ 3 ∷ []) (2 ∷ 3 ∷ 0 ∷ 1 ∷ []) 2
     ∷ bus 4 1 2 1 (0 ∷ 1 ∷ []) (0 ∷ []) 3
     ∷ bus 4 1 2 0 (0 ∷ 1 ∷ []) (0 ∷ []) 2
-    ∷ tree 4 (At 2) (0 ∷ 1 ∷ []) (0 ∷ 2 ∷ 1 ∷ 2 ∷ 1 ∷ 1 ∷ 2 ∷ 0 ∷ [])
+    ∷ tree 4 (Some 2) (0 ∷ 1 ∷ []) (0 ∷ 2 ∷ 1 ∷ 2 ∷ 1 ∷ 1 ∷ 2 ∷ 0 ∷ [])
     ∷ []
 
 -- the rules give this entry

@@ -5,8 +5,8 @@
 use Rattle.std.specs.Prelude.{ℕ, suc, ◌+◌, ◌-◌, ◌%◌, ◌≤◌, ◌<◌, min, ◌≡◌, refl, Bool, true, false, ◌&&◌, ◌⊎◌, List, [], ◌∷◌, ◌++◌, ltb, eqb, length, get_or}
 use Rattle.std.proofs.Common.{sym, ap, ◌∙◌, inl, inr, ⊎_elim, append_assoc, append-nil, arith, mod-eq_of_lt, mod-lt, zero-add, add-one, ltb-true, ltb-false, length-take}
 use Rattle.std.proofs.Math.Nat.{mod_self}
-use Rattle.rules.specs.declared.Head.{Head}
-use Rattle.rules.specs.declared.Head.TheVariants.{None, At}
+use Rattle.rules.specs.Head.{Head}
+use Rattle.std.specs.Prelude.{None, Some}
 use Rattle.rules.specs.Lists.{bit, range, filter, count, member, marks, before, last}
 use Rattle.rules.specs.Lists.Laws as Lists
 use Rattle.rules.specs.RoundRobin.{start, order, granted, grants, after, next}
@@ -17,7 +17,7 @@ unfolding start
 start_none = refl
 
 -- the head comes first
-pub start_at : (h : ℕ) → start (At h) ≡ h
+pub start_at : (h : ℕ) → start (Some h) ≡ h
 unfolding start
 start_at h = refl
 
@@ -54,15 +54,15 @@ from_turned n s l = (
       (past n s l),
 )
 
-pub after_last : (n : ℕ) (h : Head) (front : List ℕ) (w : ℕ) → after n h (front ++ (w ∷ [])) ≡ At ((w + 1) % n)
+pub after_last : (n : ℕ) (h : Head) (front : List ℕ) (w : ℕ) → after n h (front ++ (w ∷ [])) ≡ Some ((w + 1) % n)
 unfolding after
 after_last n h [] w = refl
-after_last n h (x ∷ front) w = ap (λ (k : ℕ). At ((k + 1) % n)) (Lists.last_snoc x front w)
+after_last n h (x ∷ front) w = ap (λ (k : ℕ). Some ((k + 1) % n)) (Lists.last_snoc x front w)
 
-pub after_head : (n : ℕ) (h : Head) (xs : List ℕ) → start h < n → (k : ℕ) × (k < n) × (after n h xs ≡ At k)
+pub after_head : (n : ℕ) (h : Head) (xs : List ℕ) → start h < n → (k : ℕ) × (k < n) × (after n h xs ≡ Some k)
 unfolding after start
 after_head n h (g ∷ gs) l = ((last g gs + 1) % n, mod-lt (last g gs + 1) (omega arith), refl)
-after_head n (At k) [] l = (k, l, refl)
+after_head n (Some k) [] l = (k, l, refl)
 after_head n None [] l = (n - 1, omega arith, refl)
 
 -- counting along the order counts every station once
@@ -72,7 +72,7 @@ order_count n h p l = from_count n (start h) p l
 
 -- the order that starts at the first station's successor is the order turned by one
 pub order_turned : (n : ℕ) (h : Head) → start h < n
-    → (rest : List ℕ) × (order n h ≡ start h ∷ rest) × (order n (At ((start h + 1) % n)) ≡ rest ++ (start h ∷ []))
+    → (rest : List ℕ) × (order n h ≡ start h ∷ rest) × (order n (Some ((start h + 1) % n)) ≡ rest ++ (start h ∷ []))
 unfolding order start
 order_turned n h l = from_turned n (start h) l
 
@@ -126,16 +126,16 @@ unfolding next
 next_after n m h asks gs e = ap (after n h) e
 
 -- after one grant it is one past it, modulo n
-pub after_one : (n : ℕ) (h : Head) (w : ℕ) → after n h (w ∷ []) ≡ At ((w + 1) % n)
+pub after_one : (n : ℕ) (h : Head) (w : ℕ) → after n h (w ∷ []) ≡ Some ((w + 1) % n)
 unfolding after
 after_one n h w = refl
 
 -- after nobody a head stays
-pub after_stays : (n k : ℕ) → after n (At k) [] ≡ At k
+pub after_stays : (n k : ℕ) → after n (Some k) [] ≡ Some k
 unfolding after
 after_stays n k = refl
 
 -- and no head becomes n - 1
-pub after_none : (n : ℕ) → after n None [] ≡ At (n - 1)
+pub after_none : (n : ℕ) → after n None [] ≡ Some (n - 1)
 unfolding after
 after_none n = refl

@@ -1,8 +1,8 @@
 -- The tree's rule held against the round-robin rule on small widths, by computing every case.
 -- Assumes nothing.
 use Rattle.std.specs.Prelude.{ℕ, ◌/◌, ◌%◌, ◌^◌, Bool, List, ◌∷◌, map, ◌≡◌, refl, eqb}
-use Rattle.rules.specs.declared.Head.{Head}
-use Rattle.rules.specs.declared.Head.TheVariants.{None, At}
+use Rattle.rules.specs.Head.{Head}
+use Rattle.std.specs.Prelude.{None, Some}
 use Rattle.rules.specs.Lists.{range, count, same}
 use Rattle.rules.specs.RoundRobin.{start, order, granted}
 use Rattle.rules.specs.Tree.{value, s1, s0, head_at, leaf, join, joined, nodes, goes_right, child, descend, reached, chosen}
@@ -13,7 +13,7 @@ asking x i = eqb (x / 2 ^ i % 2) 1
 
 -- none, and every station
 pub heads : ℕ → List Head
-heads n = None ∷ map At (range 0 n)
+heads n = None ∷ map Some (range 0 n)
 
 -- from head h the tree grants whom the round-robin rule grants, whoever asks
 pub agrees : ℕ → Head → Bool

@@ -6,7 +6,7 @@ use Rattle.std.proofs.Math.Path.{ap}
 use Rattle.std.proofs.Common.{arith, suc-add}
 use mathlib.Core.List.{List, [], ◌∷◌, ◌++◌, map}
 use Rattle.std.proofs.Math.Nat.{zero-add}
-use Rattle.rules.specs.declared.Head.{Head}
+use Rattle.rules.specs.Head.{Head}
 use Rattle.rules.specs.RoundRobin.{order}
 use Rattle.rules.specs.Thermometer.{add, input, inputs, running, running_codes}
 

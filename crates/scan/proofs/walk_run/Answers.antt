@@ -1,43 +1,49 @@
 -- `walk_run` meets its contract: up to the station found last the run is done.
 -- Assumes nothing.
+use Rattle.std.proofs.Common.{ℕ, ◌≤◌, List, Option, Some, length, take}
 use mathlib.Core.Path.{◌≡◌, sym, ◌∙◌}
 use native.Mathlib.Omega.{arith}
 use lib.ListN.{length-set, length-take}
 use Rattle.rules.proofs.Walk.Laws as Walk
+use Rattle.arbiter.specs.Places.{ones, first}
 use Rattle.scan.proofs.Searches as Searches
 use Rattle.scan.proofs.walk_run.Goals as goal
 
 pub slice_bounds-run-end : goal.slice_bounds-run-end
 slice_bounds-run-end c = simp length-take (omega arith)
 
-pub loop-count-init : goal.loop-count-init
-loop-count-init c = (omega arith, omega arith, omega arith, omega arith, Walk.begin _ _ _ _ _ _ (omega arith))
+pub loop-walk-init : goal.loop-walk-init
+loop-walk-init c = (omega arith, omega arith, omega arith, omega arith, Walk.begin _ _ _ _ _ _ (omega arith))
 
 pub returns-in_default : goal.returns-in_default
 returns-in_default c =
-    let l = c.loop-count in
+    let l = c.loop-walk in
     let a = c.args in
-    let none = Searches.nobody a.requests.now l.i a.to (omega arith) (sym c.first_one-found.ensures ∙ c.in_default.is) in
+    let none = Searches.nobody a.requests.now l.i a.to (omega arith) (sym c.first_one.ensures ∙ c.in_default.is) in
     Walk.quiet _ _ _ _ _ _ l.i l.invariant.0 _ _ _ l.invariant.4 a.to l.invariant.1 none
 
 -- the station found
-station : (c : goal.In-At)
-    → let l = c.loop-count in
-    Searches.Found c.args.requests.now l.i c.args.to (omega (arith, c.requires)) c.in-At.station
-station c =
-    let l = c.loop-count in
-    Searches.found c.args.requests.now l.i c.args.to (omega (arith, c.requires)) _ (sym c.first_one-found.ensures ∙ c.in-At.is)
+station : {from to w : ℕ} {requests : List ℕ} {r : Option ℕ} → (room : to ≤ length requests) → r ≡ first (ones from (take to requests)) → r ≡ Some w
+    → Searches.Found requests from to room w
+station {from} {to} {w} {requests} room e f = Searches.found requests from to room w (sym e ∙ f)
 
 pub bounds-grants-station : goal.bounds-grants-station
-bounds-grants-station c = let w = station c in omega (arith, w.high)
+bounds-grants-station c =
+    let l = c.loop-walk in
+    let a = c.args in
+    let w = station {from = l.i} {to = a.to} {requests = a.requests.now} (omega (arith, c.requires)) c.first_one.ensures c.in-Some.is in omega (arith, w.high)
 
 pub overflow_add-i : goal.overflow_add-i
-overflow_add-i c = let w = station c in omega (arith, w.high)
+overflow_add-i c =
+    let l = c.loop-walk in
+    let a = c.args in
+    let w = station {from = l.i} {to = a.to} {requests = a.requests.now} (omega (arith, c.requires)) c.first_one.ensures c.in-Some.is in omega (arith, w.high)
 
-pub loop-count-preserved : goal.loop-count-preserved
-loop-count-preserved c =
-    let w = station c in
-    let l = c.loop-count in
+pub loop-walk-preserved : goal.loop-walk-preserved
+loop-walk-preserved c =
+    let l = c.loop-walk in
+    let a = c.args in
+    let w = station {from = l.i} {to = a.to} {requests = a.requests.now} (omega (arith, c.requires)) c.first_one.ensures c.in-Some.is in
     let r = Walk.quiet _ _ _ _ _ _ l.i l.invariant.0 _ _ _ l.invariant.4 _ w.low w.earlier in (
       omega (arith, w.low),
       omega (arith, w.high),
@@ -48,7 +54,7 @@ loop-count-preserved c =
 
 pub returns : goal.returns
 returns c =
-    let l = c.loop-count in
+    let l = c.loop-walk in
     let a = c.args in
-    let used-up : l.count ≡ a.picks = omega arith in
+    let used-up : l.walk.count ≡ a.picks = omega arith in
     Walk.full _ _ _ _ _ _ l.i l.invariant.0 _ _ _ l.invariant.4 a.to l.invariant.1 used-up

@@ -7,10 +7,10 @@ use Rattle.rules.specs.Walk.{Ran}
 use Rattle.arbiter.specs.Decisions.{requested}
 use Rattle.scan.proofs.walk_run.Given as goal
 
-abbrev pub invariant-loop-count : goal.invariant-loop-count
-invariant-loop-count l =
-    (l.from ≤ l.i) × (l.i ≤ l.to) × (l.count ≤ l.picks) × (length l.grants ≡ length l.initial.grants)
-    × Ran l.picks (requested l.requests) l.from l.i l.initial.count l.initial.last l.initial.grants l.count l.last l.grants
+abbrev pub invariant-loop-walk : goal.invariant-loop-walk
+invariant-loop-walk l =
+    (l.from ≤ l.i) × (l.i ≤ l.to) × (l.walk.count ≤ l.picks) × (length l.grants ≡ length l.initial.grants)
+    × Ran l.picks (requested l.requests) l.from l.i l.initial.walk.count l.initial.walk.last l.initial.grants l.walk.count l.walk.last l.grants
 
-abbrev pub decreases-loop-count : goal.decreases-loop-count
-decreases-loop-count l = l.picks - l.count
+abbrev pub decreases-loop-walk : goal.decreases-loop-walk
+decreases-loop-walk l = l.picks - l.walk.count

@@ -1,30 +1,16 @@
--- `readable` meets its contract: the questions in their order.
+-- `readable` meets its contract: question 5, then those about the last byte and about what the snapshot says.
 -- Assumes nothing.
-use mathlib.Core.Path.{◌≡◌, sym, ap, ◌∙◌}
-use native.Mathlib.Omega.{arith}
-use lib.ListN.{length}
-use Rattle.arbiter.specs.declared.question.Verdict.{Verdict}
-use Rattle.arbiter.specs.Questions.Laws.{chained, refused, passed}
-use Rattle.snapshot.specs.Calls.{read_length, allowed}
-use Rattle.snapshot.specs.Calls.Laws.{read_some, asked}
+use Rattle.std.proofs.Common.{◌≡◌, ◌∙◌, sym, arith, Err, rules}
+use Rattle.snapshot.specs.Calls.Laws.{asked_rest}
 use Rattle.snapshot.proofs.readable.Goals as goal
 
-pub returns-then-by_length-ne-SERVED : goal.returns-then-by_length-ne-SERVED
-returns-then-by_length-ne-SERVED c = refused _ c.refuse_unless-by_length.ensures c.if-by_length-ne-SERVED.true
-
-pub overflow_sub-length : goal.overflow_sub-length
-overflow_sub-length c =
-    let fits : (read_length (length c.args.snapshot.now)).number ≡ 0 = ap (λ (v : Verdict). v.number) (sym c.refuse_unless-by_length.ensures) ∙ c.if-by_length-ne-SERVED.false in
-    omega (arith, read_some (length c.args.snapshot.now) fits)
-
-pub held-requires : goal.held-requires
-held-requires c =
-    let fits : (read_length (length c.args.snapshot.now)).number ≡ 0 = ap (λ (v : Verdict). v.number) (sym c.refuse_unless-by_length.ensures) ∙ c.if-by_length-ne-SERVED.false in
-    fits
+pub returns-in_err-allowed : goal.returns-in_err-allowed
+returns-in_err-allowed c =
+    let rest = asked_rest c.args.snapshot.now c.in_ok-fields.fields (omega (arith, c.type_inv.snapshot 0)) (sym c.held.ensures ∙ c.in_ok-fields.was) in
+    let told : c.from_residual-in_err-allowed.result ≡ Err c.in_err-allowed.field-0.0 = search rules in
+    rw (rest, sym c.bits.ensures ∙ c.in_ok-bits.was, sym c.allowed.ensures ∙ c.in_err-allowed.was) told
 
 pub returns : goal.returns
 returns c =
-    let fits : (read_length (length c.args.snapshot.now)).number ≡ 0 = ap (λ (v : Verdict). v.number) (sym c.refuse_unless-by_length.ensures) ∙ c.if-by_length-ne-SERVED.false in
-    passed c.refuse_unless-by_length.ensures c.if-by_length-ne-SERVED.false
-    (chained c.then.ensures c.bits-by_mark.ensures (c.allowed-by_fields.ensures ∙ ap allowed c.held.ensures)
-    ∙ asked c.args.snapshot.now (omega (arith, c.type_inv.snapshot 0)) fits)
+    let rest = asked_rest c.args.snapshot.now c.in_ok-fields.fields (omega (arith, c.type_inv.snapshot 0)) (sym c.held.ensures ∙ c.in_ok-fields.was) in
+    rw (rest, sym c.bits.ensures ∙ c.in_ok-bits.was, sym c.allowed.ensures ∙ c.in_ok-allowed.was)

@@ -1,37 +1,36 @@
 -- Snapshots in the bytes of 02, N4, and in 01's four, by computing.
 -- Assumes nothing.
 use Rattle.std.specs.Prelude.{ℕ, ◌≡◌, refl, List, [], ◌∷◌, map}
-use Rattle.rules.specs.declared.Head.TheVariants.{None, At}
-use Rattle.arbiter.specs.Questions.{◌then◌}
-use Rattle.arbiter.specs.Answers.{made, served, if_passed}
+use Rattle.std.specs.Prelude.{None, Some}
+use Rattle.arbiter.specs.Answers.{made, number_of, place_of, served}
 use Rattle.snapshot.specs.Calls.{saved, long_fields, short_fields, fields, questions, read}
 
 -- low byte first, and the two high bytes
 known-saved :
-    (saved (made 4 2 (At 1)) ≡ 3 ∷ 0 ∷ 2 ∷ 1 ∷ 0 ∷ 1 ∷ [])
-    × (saved (made 257 1 (At 256)) ≡ 0 ∷ 1 ∷ 1 ∷ 0 ∷ 1 ∷ 1 ∷ [])
-    × (saved (made 1024 8 (At 1023)) ≡ 255 ∷ 3 ∷ 8 ∷ 255 ∷ 3 ∷ 1 ∷ [])
+    (saved (made 4 2 (Some 1)) ≡ 3 ∷ 0 ∷ 2 ∷ 1 ∷ 0 ∷ 1 ∷ [])
+    × (saved (made 257 1 (Some 256)) ≡ 0 ∷ 1 ∷ 1 ∷ 0 ∷ 1 ∷ 1 ∷ [])
+    × (saved (made 1024 8 (Some 1023)) ≡ 255 ∷ 3 ∷ 8 ∷ 255 ∷ 3 ∷ 1 ∷ [])
     × (saved (made 1024 8 None) ≡ 255 ∷ 3 ∷ 8 ∷ 0 ∷ 0 ∷ 0 ∷ [])
 known-saved = (refl, refl, refl, refl)
 
 known_read :
-    (read (0 ∷ 1 ∷ 1 ∷ 0 ∷ 1 ∷ 1 ∷ []) ≡ served 0 (made 257 1 (At 256)))
-    × (read (255 ∷ 3 ∷ 8 ∷ 255 ∷ 3 ∷ 1 ∷ []) ≡ served 0 (made 1024 8 (At 1023)))
+    (read (0 ∷ 1 ∷ 1 ∷ 0 ∷ 1 ∷ 1 ∷ []) ≡ served 0 (made 257 1 (Some 256)))
+    × (read (255 ∷ 3 ∷ 8 ∷ 255 ∷ 3 ∷ 1 ∷ []) ≡ served 0 (made 1024 8 (Some 1023)))
     × (read (255 ∷ 3 ∷ 8 ∷ 0 ∷ 0 ∷ 0 ∷ []) ≡ served 0 (made 1024 8 None))
-unfolding long_fields short_fields fields ◌then◌ if_passed
+unfolding long_fields short_fields fields
 known_read = (refl, refl, refl)
 
 -- four bytes, as they were saved before: 01's forms
 known-short :
-    (read (3 ∷ 2 ∷ 1 ∷ 1 ∷ []) ≡ served 0 (made 4 2 (At 1)))
-    × (read (255 ∷ 8 ∷ 255 ∷ 1 ∷ []) ≡ served 0 (made 256 8 (At 255)))
+    (read (3 ∷ 2 ∷ 1 ∷ 1 ∷ []) ≡ served 0 (made 4 2 (Some 1)))
+    × (read (255 ∷ 8 ∷ 255 ∷ 1 ∷ []) ≡ served 0 (made 256 8 (Some 255)))
     × (read (0 ∷ 1 ∷ 0 ∷ 0 ∷ []) ≡ served 0 (made 1 1 None))
-unfolding long_fields short_fields fields ◌then◌ if_passed
+unfolding long_fields short_fields fields
 known-short = (refl, refl, refl)
 
 -- the number and the place of a refusal
 abbrev asked : List ℕ → List ℕ
-asked bytes = (questions bytes).number ∷ (questions bytes).place ∷ []
+asked bytes = number_of (questions bytes) ∷ place_of (questions bytes) ∷ []
 
 -- six bytes: 8 at place 5 before 1, 1 before 3, 3 before 4; 4 by either head byte without the mark, and by a station that there is not
 known-refused :
@@ -45,7 +44,7 @@ known-refused :
     ∷ (255 ∷ 3 ∷ 1 ∷ 0 ∷ 4 ∷ 1 ∷ [])
     ∷ [])
     ≡ (8 ∷ 5 ∷ []) ∷ (1 ∷ 0 ∷ []) ∷ (1 ∷ 0 ∷ []) ∷ (3 ∷ 0 ∷ []) ∷ (4 ∷ 0 ∷ []) ∷ (4 ∷ 0 ∷ []) ∷ (4 ∷ 0 ∷ []) ∷ []
-unfolding long_fields short_fields fields ◌then◌
+unfolding long_fields short_fields fields
 known-refused = refl
 
 -- four bytes: 8 at place 3 before 3, 3 before 4; other lengths by 5
@@ -60,5 +59,5 @@ known-short-refused :
     ∷ (3 ∷ 0 ∷ 2 ∷ 1 ∷ 0 ∷ 1 ∷ 0 ∷ [])
     ∷ [])
     ≡ (8 ∷ 3 ∷ []) ∷ (3 ∷ 0 ∷ []) ∷ (4 ∷ 0 ∷ []) ∷ (4 ∷ 0 ∷ []) ∷ (5 ∷ 0 ∷ []) ∷ (5 ∷ 0 ∷ []) ∷ (5 ∷ 0 ∷ []) ∷ []
-unfolding long_fields short_fields fields ◌then◌
+unfolding long_fields short_fields fields
 known-short-refused = refl

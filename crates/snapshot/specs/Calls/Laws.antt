@@ -1,19 +1,23 @@
 -- Laws of the snapshot.
 -- Assumes nothing.
-use Rattle.std.specs.Prelude.{ℕ, ◌+◌, ◌-◌, ◌/◌, ◌%◌, ◌<◌, ◌≤◌, ◌≡◌, refl, cond, ◌||◌, List, [], ◌∷◌, eqb, length, set, get_or}
-use Rattle.std.proofs.Common.{sym, ap, ◌∙◌, arith, eq-eqb, ne_eqb, eqb-true}
+use Rattle.std.specs.Int.{from_bool}
+use Rattle.std.specs.Prelude.{ℕ, ◌+◌, ◌-◌, ◌*◌, ◌/◌, ◌%◌, ◌<◌, ◌≤◌, ◌≡◌, refl, cond, ◌||◌, List, [], ◌∷◌, eqb, length, get_or}
+use Rattle.std.proofs.Common.{is_some, sym, ap, arith, eq-eqb, ne_eqb, eqb-true}
 use Rattle.std.proofs.lemmas.Bool.{eqb-false}
-use Rattle.rules.specs.declared.Head.{Head}
-use Rattle.rules.specs.declared.Head.TheVariants.{None, At}
+use Rattle.rules.specs.Head.{Head}
+use Rattle.std.specs.Prelude.{None, Some, Ok, Err}
 use Rattle.rules.specs.Lists.Laws as Lists
 use Rattle.rules.specs.RoundRobin.{start}
 use Rattle.rules.proofs.RoundRobin.Laws.{start_none, start_at}
 use Rattle.arbiter.specs.declared.State.{State}
-use Rattle.arbiter.specs.declared.question.Verdict.{Verdict}
+use Rattle.arbiter.specs.declared.refusal.Refusal.{Refusal}
 use Rattle.arbiter.specs.Questions as Questions
-use Rattle.arbiter.specs.Questions.{◌then◌}
+use Rattle.arbiter.specs.Questions.{Verdict, passed, ◌then◌}
 use Rattle.arbiter.specs.Questions.Laws.{then_served, unless_served, width_passes}
-use Rattle.snapshot.specs.Calls.{size, short_size, mark, head_bytes, saved, long_fields, short_fields, fields, marked, read_length, no_stray, allowed, long_questions, short_questions, questions}
+use Rattle.arbiter.specs.Words.{number}
+use Rattle.arbiter.specs.Answers.{made, served, refused, nothing}
+use Rattle.snapshot.specs.declared.Fields.{Fields}
+use Rattle.snapshot.specs.Calls.{size, short_size, mark, head_bytes, saved, long_fields, short_fields, fields, marked, read_length, no_stray, allowed, long_questions, short_questions, questions, read}
 
 -- a list of six
 pub six : (l : List ℕ) → length l ≡ size → l ≡ get_or l 0 0 ∷ get_or l 1 0 ∷ get_or l 2 0 ∷ get_or l 3 0 ∷ get_or l 4 0 ∷ get_or l 5 0 ∷ []
@@ -26,20 +30,15 @@ six (a ∷ b ∷ c ∷ d ∷ f ∷ []) e = absurd (omega arith)
 six (a ∷ b ∷ c ∷ d ∷ f ∷ g ∷ []) e = refl
 six (a ∷ b ∷ c ∷ d ∷ f ∷ g ∷ h ∷ l) e = absurd (omega arith)
 
--- six bytes that are all set
-pub six_set : (a b c d f g : ℕ) (l : List ℕ) → length l ≡ size
-    → set (set (set (set (set (set l 0 a) 1 b) 2 c) 3 d) 4 f) 5 g ≡ a ∷ b ∷ c ∷ d ∷ f ∷ g ∷ []
-six_set a b c d f g l e = ap (λ (l : List ℕ). set (set (set (set (set (set l 0 a) 1 b) 2 c) 3 d) 4 f) 5 g) (six l e)
-
 -- the head's bytes, by the station where the order starts
 head_bytes_lem : (h : Head) → head_bytes h ≡ start h % 256 ∷ start h / 256 ∷ mark h ∷ []
 head_bytes_lem None = rw start_none
-head_bytes_lem (At h) = rw (start_at h)
+head_bytes_lem (Some h) = rw (start_at h)
 
 -- once 5 has passed, what is not short is long
-pub long_size : (n : ℕ) → (read_length n).number ≡ 0 → (n ≡ short_size → ⊥) → n ≡ size
+pub long_size : (n : ℕ) → read_length n ≡ passed → (n ≡ short_size → ⊥) → n ≡ size
 long_size n z not_short =
-    eqb-true n size (rw (ne_eqb n short_size not_short) at (unless_served (eqb n short_size || eqb n size) 4 0 z))
+    eqb-true n size (rw (ne_eqb n short_size not_short) at (unless_served (eqb n short_size || eqb n size) _ z))
 
 pub fields_short : (bytes : List ℕ) → length bytes ≡ short_size → fields bytes ≡ short_fields bytes
 unfolding fields
@@ -50,6 +49,17 @@ unfolding fields
 fields_long bytes e =
     let not_short : length bytes ≡ short_size → ⊥ = λ s. absurd (omega arith) in rw (ne_eqb (length bytes) short_size not_short)
 
+-- two bytes as the library puts them together
+pub word : (low high : ℕ) → low + high * 256 ≡ number (low ∷ high ∷ [])
+word low high = omega arith
+
+-- so once 5 has passed, either form says what its bytes say
+pub held_short : (bytes : List ℕ) → length bytes ≡ short_size → (read_length (length bytes) then Ok (fields bytes)) ≡ Ok (short_fields bytes)
+held_short bytes e = rw (fields_short bytes e, e)
+
+pub held_long : (bytes : List ℕ) → length bytes ≡ size → (read_length (length bytes) then Ok (fields bytes)) ≡ Ok (long_fields bytes)
+held_long bytes e = rw (fields_long bytes e, e)
+
 short_width : (bytes : List ℕ) → (short_fields bytes).width ≡ get_or bytes 0 0 + 1
 unfolding short_fields
 short_width bytes = refl
@@ -57,11 +67,10 @@ short_width bytes = refl
 -- where 1 passes, it makes no difference that it is asked
 width_asked : (n : ℕ) (b c d : Verdict) → 1 ≤ n → n ≤ Questions.max_width
     → (Questions.width n then b then c then d) ≡ (b then c then d)
-unfolding ◌then◌
-width_asked n b c d l u = rw (eq-eqb (Questions.width n).number 0 (width_passes n l u))
+width_asked n b c d l u = rw (width_passes n l u)
 
 -- the questions after 5, in the order in which they are asked of either form
-pub asked : (bytes : List ℕ) → get_or bytes 0 0 < 256 → (read_length (length bytes)).number ≡ 0
+pub asked : (bytes : List ℕ) → get_or bytes 0 0 < 256 → read_length (length bytes) ≡ passed
     → (Questions.bits (length bytes - 1) bytes then allowed (fields bytes))
     ≡ cond (eqb (length bytes) short_size) (short_questions bytes) (long_questions bytes)
 asked bytes byte z =
@@ -79,15 +88,39 @@ asked bytes byte z =
     let last : length bytes - 1 ≡ 5 = omega arith in
     rw (n, last, fields_long bytes e))
 
--- once 5 has passed there is a byte
-pub read_some : (n : ℕ) → (read_length n).number ≡ 0 → 1 ≤ n
-read_some n z =
-    Lists.split (eqb n short_size) (λ t. omega (arith, eqb-true n short_size t))
-    (λ f. omega (arith, long_size n z (eqb-false n short_size f)))
+-- and the whole of the questions, once 5 has passed
+asked_whole : (bytes : List ℕ) → get_or bytes 0 0 < 256 → read_length (length bytes) ≡ passed
+    → questions bytes ≡ (Questions.bits (length bytes - 1) bytes then allowed (fields bytes))
+asked_whole bytes byte z = rw z (sym (asked bytes byte z))
 
--- a call that reads has passed 5: r is the verdict
-pub readable : {r : Verdict} (bytes : List ℕ) → r ≡ questions bytes → r.number ≡ 0 → (read_length (length bytes)).number ≡ 0
-readable bytes e z = (then_served (read_length (length bytes)) _ (ap (λ (v : Verdict). v.number) (sym e) ∙ z)).0
+-- the questions once 5 has passed, of a snapshot that says f
+pub asked_rest : (bytes : List ℕ) (f : Fields) → get_or bytes 0 0 < 256 → (read_length (length bytes) then Ok (fields bytes)) ≡ Ok f
+    → (questions bytes then Ok (fields bytes)) ≡ (Questions.bits (length bytes - 1) bytes then allowed f then Ok f)
+asked_rest bytes f byte e =
+    let five = then_served (read_length (length bytes)) (Ok (fields bytes)) e in
+    let same : fields bytes ≡ f = cc in
+    rw (asked_whole bytes byte five.0, same)
+
+-- reading answers by what the questions say
+pub read_passed : (bytes : List ℕ) (f : Fields) → (questions bytes then Ok (fields bytes)) ≡ Ok f
+    → read bytes ≡ served 0 (made f.width f.picks (marked f.station f.mark))
+read_passed bytes f e =
+    let both = then_served (questions bytes) (Ok (fields bytes)) e in
+    let same : fields bytes ≡ f = cc in
+    rw (both.0, same)
+
+pub read_refused : (bytes : List ℕ) (refusal : Refusal) → (questions bytes then Ok (fields bytes)) ≡ Err refusal
+    → read bytes ≡ refused refusal nothing
+read_refused bytes refusal e = rw (by (questions bytes) e)
+  where
+    by : (v : Verdict) → (v then Ok (fields bytes)) ≡ Err refusal → v ≡ Err refusal
+    by (Ok _) e = let no : ⊥ = cc in absurd no
+    by (Err r) e = let same : r ≡ refusal = cc in rw same
+
+-- the mark, by whether there is a head
+pub mark_bit : (h : Head) → from_bool (is_some h) ≡ mark h
+mark_bit None = refl
+mark_bit (Some h) = refl
 
 -- the bytes that are written, each as it was worked out: `at` is the station
 pub six_saved : (s : State) {a b at c d m : ℕ} → a ≡ (s.width - 1) % 256 → b ≡ (s.width - 1) / 256 → at ≡ start s.head

@@ -1,22 +1,24 @@
 -- Texts that are written one after the other.
 -- Assumes nothing.
-use Rattle.std.specs.Prelude.{ℕ, suc, ◌+◌, ◌≤◌, ◌<◌, ◌≡◌, refl, List, [], ◌∷◌, ◌++◌, leb, length, take, drop, get_or, set}
-use Rattle.std.proofs.Common.{sym, ap, ◌∙◌, add-one, arith, length-append, take_all, take-suc, leb-true, leb-false}
+use Rattle.std.specs.Prelude.{ℕ, suc, ◌+◌, ◌-◌, min, ◌≤◌, ◌<◌, ◌≡◌, refl, List, [], ◌∷◌, ◌++◌, length, take, drop, get_or, set}
+use Rattle.std.proofs.Common.{sym, ap, ◌∙◌, add-one, arith, length-append, length-take, take_all, take-append-drop, take-suc}
 use Rattle.std.proofs.lemmas.List.Edits.{sets, sets-eq}
 use Rattle.std.proofs.Math.Seq.{length-sets, set_out}
-use Rattle.rules.specs.Lists.Laws as Lists
-use Rattle.text.specs.Output.{Put}
+use borrow.Rule.Slice.PartMut.{put_mid}
+use Rattle.std.proofs.lemmas.Slice.{put_mid-paste}
+use Rattle.std.proofs.lemmas.List.{drop_all}
+use Rattle.std.proofs.lemmas.Bool.{cases_lt}
+use Rattle.text.specs.declared.Output.{Output}
+use Rattle.text.specs.Output.{Put, Written}
 
 sets_append : (l : List ℕ) (i : ℕ) (xs ys : List ℕ) → sets l i (xs ++ ys) ≡ sets (sets l i xs) (i + length xs) ys
-sets_append l i [] ys = ap (λ (k : ℕ). sets l k ys) (omega arith)
-sets_append l i (x ∷ xs) ys =
-    sets_append (set l i x) (suc i) xs ys
-    ∙ ap (λ (k : ℕ). sets (sets (set l i x) (suc i) xs) k ys) (omega arith)
+sets_append l i [] ys = grind arith
+sets_append l i (x ∷ xs) ys = grind (arith, sets_append (set l i x) (suc i) xs ys)
 
 -- past the end nothing is written
 sets_out : (l : List ℕ) (i : ℕ) (vs : List ℕ) → length l ≤ i → sets l i vs ≡ l
 sets_out l i [] h = refl
-sets_out l i (v ∷ vs) h = rw (set_out l i v h) (sets_out l (suc i) vs (omega arith))
+sets_out l i (v ∷ vs) h = grind (arith, set_out l i v, sets_out l (suc i) vs)
 
 -- a text changes no length
 pub put_length : {former : List ℕ} {at : ℕ} {text buffer : List ℕ} {end : ℕ} → Put former at text buffer end
@@ -40,6 +42,25 @@ put_one former at c l = record { holds = refl; ends = omega arith }
 pub put_out : (former : List ℕ) (at : ℕ) (text : List ℕ) → length former ≤ at → Put former at text former at
 put_out former at text l = record { holds = sym (sets_out former at text l); ends = omega arith }
 
+-- as much of a text as there is room for, copied in one piece: what a write to `buffer[at..at + n]` leaves
+pub put_copied : (former : List ℕ) (at : ℕ) (text part : List ℕ) (n k : ℕ) → at < length former
+    → n ≡ min (length text) (length former - at) → k ≡ n → part ≡ take n text → Put former at text (put_mid at k former part) (at + n)
+put_copied former at text part n k l e same copied =
+    let few : length (take n text) ≡ n = omega (arith, length-take n text) in
+    let written = sets former at (take n text) in
+    let past : sets written (at + length (take n text)) (drop n text) ≡ written =
+    grind (arith, cases_lt n (length text), drop_all n text, length-sets former at (take n text), sets_out written (at + length (take n text)) (drop n text)) in
+    record {
+      holds =
+          put_mid-paste at k former part (take n text) n copied (sym same) (sym few)
+          ∙ rw (take_all n (take n text) (omega arith))
+          (sym (sets-eq (take n text) former at (omega arith) ∙ ap (λ (j : ℕ). take at former ++ take n text ++ drop (at + j) former) few)
+          ∙ sym past
+          ∙ sym (sets_append former at (take n text) (drop n text))
+          ∙ ap (sets former at) (take-append-drop n text));
+      ends = omega arith;
+    }
+
 -- one text after another, whether or not they fit
 pub put_then : {former : List ℕ} {at : ℕ} {first buffer : List ℕ} {middle : ℕ} {second now : List ℕ} {end : ℕ}
     → Put former at first buffer middle → Put buffer middle second now end → Put former at (first ++ second) now end
@@ -47,11 +68,7 @@ put_then {former} {at} {first} {buffer} {middle} {second} p q =
     let long = put_length p in
     let after = at + length first in
     let same : sets buffer middle second ≡ sets buffer after second =
-    Lists.split (leb after (length former))
-    (λ t. ap (λ (k : ℕ). sets buffer k second) (omega (arith, leb-true after (length former) t, p.ends)))
-    (λ f.
-    let past = leb-false after (length former) f in
-    sets_out buffer middle second (omega (arith, p.ends)) ∙ sym (sets_out buffer after second (omega arith))) in
+    grind (arith, cases_lt (length former) after, sets_out buffer middle second, sets_out buffer after second) in
     record {
       holds = q.holds ∙ same ∙ rw p.holds (sym (sets_append former at first second));
       ends = omega (arith, p.ends, q.ends, length-append first second);
@@ -79,3 +96,16 @@ pub put_start : {former text buffer : List ℕ} {end : ℕ} → Put former 0 tex
 put_start {former} {text} p l =
     let zero : 0 + length text ≡ length text = omega arith in
     p.holds ∙ sets-eq text former 0 (omega arith) ∙ ap (λ (k : ℕ). text ++ drop k former) zero
+
+-- a text told in another way
+pub same_written : {former output : Output} {text other : List ℕ} → text ≡ other → Written former text output → Written former other output
+same_written e w = rw e at w
+
+-- no text
+pub written_none : (output : Output) → Written output [] output
+written_none output = record { same_buffer = refl; put = put_none output.bytes.now output.at }
+
+-- one text after another
+pub written_then : {former middle output : Output} {first second : List ℕ} → Written former first middle → Written middle second output
+    → Written former (first ++ second) output
+written_then v w = record { same_buffer = w.same_buffer ∙ v.same_buffer; put = put_then v.put w.put }

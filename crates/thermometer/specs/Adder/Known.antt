@@ -1,16 +1,24 @@
 -- 01, "Known turns", its line on the adder, by computing: codes are written in binary there.
 -- Assumes nothing.
-use Rattle.std.specs.Prelude.{◌≡◌, refl, List, [], ◌∷◌}
+use Rattle.std.specs.Prelude.{ℕ, ◌≡◌, refl, List, [], ◌∷◌, Result}
 use Rattle.std.specs.Int.Count.{ones}
 use Rattle.rules.specs.Thermometer.{code, is_code, add}
-use Rattle.arbiter.specs.Questions.{◌then◌}
-use Rattle.arbiter.specs.Answers.{if_passed}
-use Rattle.thermometer.specs.declared.adder.Sum.{Sum}
-use Rattle.thermometer.specs.Adder.{sum}
+use Rattle.arbiter.specs.declared.refusal.Refusal.{Refusal}
+use Rattle.arbiter.specs.Answers.{number_of, place_of}
+use Rattle.thermometer.specs.Adder.{sum, code_of}
+
+-- what the adder's answer says: a number, a place and a code
+record Said : Type 0 where
+  number : ℕ
+  place : ℕ
+  code : ℕ
+
+abbrev said : Result ℕ Refusal → Said
+said answer = record { number = number_of answer; place = place_of answer; code = code_of answer }
 
 -- "m 2: 01 and 01 give 11; 11 and 01 give 11; 10 is refused by 13"; nine picks are refused by 3, whatever the codes
-abbrev sums : List Sum
-sums = sum 2 1 1 ∷ sum 2 3 1 ∷ sum 2 2 1 ∷ sum 9 2 1 ∷ []
+abbrev sums : List Said
+sums = said (sum 2 1 1) ∷ said (sum 2 3 1) ∷ said (sum 2 2 1) ∷ said (sum 9 2 1) ∷ []
 
 pub known_sums : sums
     ≡ record { number = 0; place = 0; code = 3 }
@@ -18,5 +26,5 @@ pub known_sums : sums
     ∷ record { number = 13; place = 0; code = 0 }
     ∷ record { number = 3; place = 0; code = 0 }
     ∷ []
-unfolding code is_code add ones ◌then◌ if_passed
+unfolding code is_code add ones
 known_sums = refl

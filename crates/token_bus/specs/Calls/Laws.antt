@@ -1,11 +1,10 @@
 -- Laws of the bus's calls: what is known once the questions have passed; that a served cycle is by the bus's rule; what a cycle
 -- decides and grants once the first station that asks is found.
 -- Assumes nothing.
-use Rattle.std.specs.Prelude.{ℕ, ◌+◌, ◌%◌, ◌≤◌, ◌<◌, ◌≡◌, refl, Bool, true, false, cond, List, [], ◌∷◌, length, set, replicate}
-use Rattle.std.proofs.Math.Path.{sym}
+use Rattle.std.specs.Prelude.{ℕ, ◌+◌, ◌%◌, ◌≤◌, ◌<◌, ◌≡◌, Bool, true, false, cond, List, [], ◌∷◌, length, set, replicate, Option, None, Some, MatchOption, Ok}
+use Rattle.std.proofs.Math.Path.{refl, sym}
 use Rattle.std.proofs.Common.{ap, ◌∙◌, arith, lt-ltb, le-leb}
-use Rattle.rules.specs.declared.Head.{Head}
-use Rattle.rules.specs.declared.Head.TheVariants.{None, At}
+use Rattle.rules.specs.Head.{Head}
 use Rattle.rules.specs.Lists.{bit, marks}
 use Rattle.rules.specs.Lists.Laws as Lists
 use Rattle.rules.specs.RoundRobin.{start}
@@ -13,25 +12,25 @@ use Rattle.rules.proofs.RoundRobin.Laws as RoundRobin
 use Rattle.rules.specs.Bus as Bus
 use Rattle.rules.proofs.Bus.Laws as BusLaws
 use Rattle.arbiter.specs.declared.State.{State}
-use Rattle.arbiter.specs.declared.question.Reading.{Reading}
 use Rattle.arbiter.specs.Places.{ones, first, Bits, highest}
 use Rattle.arbiter.specs.Places.Laws.{first_none}
 use Rattle.arbiter.specs.Questions as Questions
-use Rattle.arbiter.specs.Questions.{◌then◌}
+use Rattle.arbiter.specs.Questions.{passed, ◌then◌}
 use Rattle.arbiter.specs.Questions.Laws.{then_served, then_passed, width_served, token_served, Lent, lent, lends}
-use Rattle.arbiter.specs.Answers.{Outcome}
-use Rattle.arbiter.specs.Answers.Laws.{writes_passed, writes_is}
+use Rattle.arbiter.specs.Answers.{Outcome, number, answered, if_passed}
+use Rattle.arbiter.specs.Answers.Laws.{writes_passed, writes_is, writes_refused, answered_writes}
+use Rattle.arbiter.specs.Cycle.{asking}
 use Rattle.arbiter.specs.Decisions.{requested}
 use Rattle.arbiter.specs.Decisions.Laws.{none_granted}
 use Rattle.arbiter.specs.Decisions.OnePick as OnePick
-use Rattle.token_bus.specs.Calls.{state, decision, answer, granting, questions, cycle}
+use Rattle.token_bus.specs.Calls.{state, token, decision, answer, granting, questions, cycle}
 
 -- what is known once 1, 3 and 4 have passed
 pub record Allowed (n : ℕ) (h : Head) : Type 0 where
   pub most : n ≤ Questions.max_width
   pub station : start h < n
 
-pub allowed : (n m : ℕ) (h : Head) → (state n m h).number ≡ 0 → Allowed n h
+pub allowed : (n m : ℕ) (h : Head) → state n m h ≡ passed → Allowed n h
 allowed n m h z =
     let b = then_served (Questions.width n then Questions.one_pick m) (Questions.token n h) z in
     let a = then_served (Questions.width n) (Questions.one_pick m) b.0 in
@@ -42,34 +41,44 @@ allowed n m h z =
       station = omega (arith, is, t.1);
     }
 
--- what is known of a cycle once all its questions have passed: r is what they say up to 8
-pub record Ready (n m : ℕ) (h : Head) (requests : List ℕ) (size high : ℕ) : Type 0 where
+-- what is known of a cycle once all its questions have passed
+pub record Ready (n m : ℕ) (h : Head) (requests : List ℕ) (size : ℕ) : Type 0 where
+  pub before : state n m h ≡ passed
   pub allows : Allowed n h
-  pub lends : Lent (state n m h) n requests size high
+  pub lends : Lent n requests size
 
-pub ready : {r : Reading} (n m : ℕ) (h : Head) (requests : List ℕ) (size byte : ℕ) → r ≡ Questions.cycle (state n m h) n requests size
-    → (r.verdict then Questions.acknowledge byte).number ≡ 0 → Ready n m h requests size r.highest
-ready {r} n m h requests size byte e z =
-    let l = lent (state n m h) n requests size e (then_served r.verdict (Questions.acknowledge byte) z).0 in
-    record { allows = allowed n m h l.before; lends = l }
+pub ready : (n m : ℕ) (h : Head) (requests : List ℕ) (size byte : ℕ) → questions n m h requests size byte ≡ passed
+    → Ready n m h requests size
+ready n m h requests size byte z =
+    let read = then_served (state n m h then Questions.cycle n requests size) (Questions.acknowledge byte) z in
+    let both = then_served (state n m h) (Questions.cycle n requests size) read.0 in
+    record { before = both.0; allows = allowed n m h both.0; lends = lent n requests size both.1 }
+
+-- a call that decides where its questions pass, and then writes, answers and writes as a cycle is to
+pub answered_cycle : (s : State) (requests former : List ℕ) (byte : ℕ)
+    → let v = questions s.width s.picks s.head requests (length former) byte in
+    let o = cycle s requests former byte in
+    (answered s (v then Ok (decision s.width (token s) (Bus.acknowledged byte) (asking s requests))) ≡ o.answer)
+    × (if_passed v (granting s requests) (λ _. former) ≡ o.written)
+answered_cycle s requests former byte = answered_writes _ s _ (granting s requests) former
 
 -- a cycle that was served by the rule: what its token and its requests were, what it answered, and what its grant buffer holds
 pub record Served (s : State) (requests : List ℕ) (byte : ℕ) (o : Outcome) : Type 0 where
-  pub passed : (state s.width s.picks s.head).number ≡ 0
+  pub passed : state s.width s.picks s.head ≡ passed
   pub token : start s.head < s.width
   pub asked : length requests ≡ s.width
   pub answers : o.answer ≡ answer s requests byte
   pub grants : o.written ≡ granting s requests
 
 pub cycle_served : (s : State) (requests former : List ℕ) (byte : ℕ)
-    → let o = cycle s requests former byte in o.answer.number ≡ 0 → Served s requests byte o
+    → let o = cycle s requests former byte in number o.answer ≡ 0 → Served s requests byte o
 cycle_served s requests former byte z =
     let v = questions s.width s.picks s.head requests (length former) byte in
     let p = writes_passed v s _ _ former z in
-    let r = ready s.width s.picks s.head requests (length former) byte refl p in
+    let r = ready s.width s.picks s.head requests (length former) byte p in
     let is = writes_is v s (answer s requests byte) (granting s requests) former p in
     record {
-      passed = r.lends.before;
+      passed = r.before;
       token = r.allows.station;
       asked = r.lends.asked;
       answers = ap (λ (o : Outcome). o.answer) is;
@@ -77,19 +86,19 @@ cycle_served s requests former byte z =
     }
 
 -- where a token passes, every station does
-pub token_moves : (n m : ℕ) (h : Head) (t : ℕ) → (state n m h).number ≡ 0 → t < n → (state n m (At t)).number ≡ 0
+pub token_moves : (n m : ℕ) (h : Head) (t : ℕ) → state n m h ≡ passed → t < n → state n m (Some t) ≡ passed
 token_moves n m h t z l =
     let before = Questions.width n then Questions.one_pick m in
     then_passed before _ (then_served before (Questions.token n h) z).0 (rw (lt-ltb t n l))
 
 -- a cycle with buffers of the right lengths and bytes that are bits passes
-pub serves : (s : State) (requests former : List ℕ) (byte : ℕ) → (state s.width s.picks s.head).number ≡ 0
+pub serves : (s : State) (requests former : List ℕ) (byte : ℕ) → state s.width s.picks s.head ≡ passed
     → length requests ≡ s.width → length former ≡ s.width → Bits requests → byte ≤ 1
-    → (cycle s requests former byte).answer.number ≡ 0
+    → number (cycle s requests former byte).answer ≡ 0
 serves s requests former byte z asked room wires bit =
-    let lent = lends (state s.width s.picks s.head) s.width requests (length former) z asked room wires in
-    ap (λ (o : Outcome). o.answer.number)
-    (writes_is _ s (answer s requests byte) (granting s requests) former (then_passed _ (Questions.acknowledge byte) lent (rw (le-leb byte 1 bit))))
+    let read = then_passed (state s.width s.picks s.head) _ z (lends s.width requests (length former) asked room wires) in
+    ap (λ (o : Outcome). number o.answer)
+    (writes_is _ s (answer s requests byte) (granting s requests) former (then_passed _ (Questions.acknowledge byte) read (rw (le-leb byte 1 bit))))
 
 -- a cycle that no question refuses, from the token t
 module _ (n t : ℕ) (requests : List ℕ) (station : t < n) where
@@ -99,43 +108,40 @@ module _ (n t : ℕ) (requests : List ℕ) (station : t < n) where
   abbrev granted : List ℕ
   granted = Bus.granted n t asks
 
-  head : start (At t) < n
+  head : start (Some t) < n
   head = BusLaws.token_head n t station
 
   -- where every byte is 0 the bus grants no one
   pub found_none : highest requests ≡ 0 → None ≡ first granted
   unfolding Bus.granted
-  found_none e = sym (ap first (none_granted n 1 (At t) requests e))
+  found_none e = sym (ap first (none_granted n 1 (Some t) requests e))
 
-  -- a search from the token on finds whom the bus grants, or no one
-  pub found_high : (w : ℕ) → length requests ≡ n → first (ones t requests) ≡ At w → At w ≡ first granted
+  -- a search from the token on finds whom the bus grants, and where it finds no one, one from 0 on does
+  pub found : {P : Type 0} {r : Option ℕ} (above : Option ℕ) → length requests ≡ n → above ≡ first (ones t requests)
+      → MatchOption above P (λ w. r ≡ Some w) → (P → r ≡ first (ones 0 requests)) → r ≡ first granted
   unfolding Bus.granted
-  found_high w long e = OnePick.found_high n (At t) requests head long w (rw (RoundRobin.start_at t) e)
-
-  -- and then one from 0 on finds whom it grants
-  pub found_low : length requests ≡ n → first (ones t requests) ≡ None → first (ones 0 requests) ≡ first granted
-  unfolding Bus.granted
-  found_low long e = OnePick.found_low n (At t) requests head long (rw (RoundRobin.start_at t) e)
+  found None long e f low = low f ∙ OnePick.found_low n (Some t) requests head long (rw (RoundRobin.start_at t) (sym e))
+  found (Some w) long e f low = f ∙ OnePick.found_high n (Some t) requests head long w (rw (RoundRobin.start_at t) (sym e))
 
   -- no grant: the token stays
-  pub idle_decides : (ack : Bool) → first granted ≡ None → record { count = 0; next = At t } ≡ decision n t ack asks
+  pub idle_decides : (ack : Bool) → first granted ≡ None → record { count = 0; next = Some t } ≡ decision n t ack asks
   idle_decides ack e = let none = first_none granted e in rw (BusLaws.next_idle n t ack asks none, none)
 
   pub idle_grants : first granted ≡ None → replicate n 0 ≡ Bus.grants n t asks
   idle_grants e = Lists.marks_none n ∙ sym (BusLaws.grants_marks n t asks ∙ ap (marks n) (first_none granted e))
 
   -- a grant: the token moves one on if it is acknowledged
-  module _ (w : ℕ) (e : first granted ≡ At w) where
+  module _ (w : ℕ) (e : first granted ≡ Some w) where
     only : granted ≡ w ∷ []
     unfolding Bus.granted
-    only = OnePick.only_granted n (At t) asks head w e
+    only = OnePick.only_granted n (Some t) asks head w e
 
     pub granted_below : w < n
     unfolding Bus.granted
-    granted_below = OnePick.granted_below n (At t) asks head w e
+    granted_below = OnePick.granted_below n (Some t) asks head w e
 
-    pub granted_decides : (ack : Bool) → record { count = 1; next = At (cond ack ((t + 1) % n) t) } ≡ decision n t ack asks
-    granted_decides ack = rw only (ap (λ (k : ℕ). record { count = 1; next = At k }) (to ack))
+    pub granted_decides : (ack : Bool) → record { count = 1; next = Some (cond ack ((t + 1) % n) t) } ≡ decision n t ack asks
+    granted_decides ack = rw only (ap (λ (k : ℕ). record { count = 1; next = Some k }) (to ack))
       where
         to : (b : Bool) → cond b ((t + 1) % n) t ≡ Bus.next n t b asks
         to true = sym (BusLaws.next_acknowledged n t asks (omega (arith, ap length only)))
@@ -143,3 +149,11 @@ module _ (n t : ℕ) (requests : List ℕ) (station : t < n) where
 
     pub granted_grants : set (replicate n 0) w 1 ≡ Bus.grants n t asks
     granted_grants = Lists.marks_one n w granted_below ∙ sym (BusLaws.grants_marks n t asks ∙ ap (marks n) only)
+
+-- and a refused one changes nothing
+pub cycle_refused : (s : State) (requests former : List ℕ) (byte : ℕ)
+    → let o = cycle s requests former byte in (number o.answer ≡ 0 → ⊥) → (o.answer.state ≡ s) × (o.written ≡ former)
+cycle_refused s requests former byte n =
+    writes_refused (questions s.width s.picks s.head requests (length former) byte) s (answer s requests byte) (granting s requests) former
+    refl
+    n

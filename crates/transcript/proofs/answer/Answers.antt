@@ -1,46 +1,34 @@
--- `transcript::answer` meets its contract.
+-- `answer` meets its contract: what the first line says, what the opening came to, and the lines that the iterator then has left.
 -- Assumes nothing.
-use mathlib.Core.Path.{sym, ap}
-use native.Mathlib.Omega.{arith}
-use lib.Seq.{length-take-le}
-use Rattle.text.specs.Output.Laws.{same_put}
-use Rattle.arbiter.specs.declared.Answer.{Answer}
-use Rattle.transcript.specs.Cycles.Laws.{opening_wide}
-use Rattle.transcript.specs.Text.Laws.{unreadable, refused, runs}
+use Rattle.std.proofs.Common.{arith, rules, tests}
+use Rattle.text.specs.Output.Laws.{same_written}
+use Rattle.transcript.specs.Lines.Laws.{left_first, left_few}
+use Rattle.transcript.specs.Text.{opened}
 use Rattle.transcript.proofs.answer.Goals as goal
 
-pub slice_bounds-read-end : goal.slice_bounds-read-end
-slice_bounds-read-end c = sym (length-take-le c.line_end-end.result c.args.body.now c.line_end-end.ensures.upper_bound)
-
-pub put_refusal-requires : goal.put_refusal-requires
-put_refusal-requires c = tt
-
 pub returns-in_default : goal.returns-in_default
+unfolding opened
 returns-in_default c =
-    same_put
-    (sym (unreadable c.args.body.now c.line_end-end.result c.read-first.result (omega (arith, c.line_end-end.ensures.value)) c.read-first.ensures c.in_default.is))
-    c.put_refusal.ensures
+    let s = c.split-lines in
+    let lines = left_first _ s.result c.next.new.self c.next.result c.next.ensures.steps (λ x r q k. search (rules, tests)) c.args.body.now s.ensures.rest s.ensures.done c.unwrap_or.result _ c.unwrap_or.ensures in
+    same_written (rw (lines, ← c.read.ensures, c.in_default.is)) c.put_refusal.ensures
 
-pub put_refusal-requires-then-opened-ne-SERVED : goal.put_refusal-requires-then-opened-ne-SERVED
-put_refusal-requires-then-opened-ne-SERVED c = tt
+pub print_lines-requires-clause-lines_bound : goal.print_lines-requires-clause-lines_bound
+print_lines-requires-clause-lines_bound c =
+    let s = c.split-lines in
+    let lines = left_first _ s.result c.next.new.self c.next.result c.next.ensures.steps (λ x r q k. search (rules, tests)) c.args.body.now s.ensures.rest s.ensures.done c.unwrap_or.result _ c.unwrap_or.ensures in
+    omega (arith, left_few _ _ _ lines, c.requires)
 
-pub returns-then-opened-ne-SERVED : goal.returns-then-opened-ne-SERVED
-returns-then-opened-ne-SERVED c =
-    same_put
-    (sym (refused c.args.body.now c.line_end-end.result c.read-first.result (omega (arith, c.line_end-end.ensures.value)) c.read-first.ensures c.in-Opens.is c.open-opened.ensures c.if-opened-ne-SERVED.true))
-    c.put_refusal-then-opened-ne-SERVED.ensures
+pub returns-in-Ok : goal.returns-in-Ok
+unfolding opened
+returns-in-Ok c =
+    let s = c.split-lines in
+    let lines = left_first _ s.result c.next.new.self c.next.result c.next.ensures.steps (λ x r q k. search (rules, tests)) c.args.body.now s.ensures.rest s.ensures.done c.unwrap_or.result _ c.unwrap_or.ensures in
+    same_written (rw (lines, ← c.read.ensures, c.in-Some.is, ← c.open-opened.ensures, c.in-Ok.is)) c.print_lines.ensures
 
-pub print_lines-requires : goal.print_lines-requires
-print_lines-requires c =
-    let is = c.open-opened.ensures in
-    let wide = opening_wide c.in-Opens.kind c.in-Opens.width c.in-Opens.picks in
-    record {
-      width_le_max_width = omega (arith, wide, ap (λ (a : Answer). a.state.width) is);
-      body_len_bound = c.requires;
-    }
-
-pub returns : goal.returns
-returns c =
-    same_put
-    (sym (runs c.args.body.now c.line_end-end.result c.read-first.result (omega (arith, c.line_end-end.ensures.value)) c.read-first.ensures c.in-Opens.is c.open-opened.ensures c.if-opened-ne-SERVED.false))
-    c.print_lines.ensures
+pub returns-in-Err : goal.returns-in-Err
+unfolding opened
+returns-in-Err c =
+    let s = c.split-lines in
+    let lines = left_first _ s.result c.next.new.self c.next.result c.next.ensures.steps (λ x r q k. search (rules, tests)) c.args.body.now s.ensures.rest s.ensures.done c.unwrap_or.result _ c.unwrap_or.ensures in
+    same_written (rw (lines, ← c.read.ensures, c.in-Some.is, ← c.open-opened.ensures, c.in-Err.is)) c.put_refusal-in-Err.ensures

@@ -2,13 +2,10 @@
 -- their characters. What a served cycle grants is not computed here, since the round-robin rule is shut; the test program runs
 -- 01's example.
 -- Assumes nothing.
-use Rattle.std.specs.Prelude.{ℕ, ◌≤◌, ◌<◌, ◌≡◌, refl, List, [], ◌∷◌, ◌++◌, length}
+use Rattle.std.specs.Prelude.{ℕ, ◌≤◌, ◌<◌, ◌≡◌, refl, List, [], ◌∷◌, ◌++◌, length, None, Some}
 use Rattle.text.specs.Characters.{digits, decimal}
-use Rattle.arbiter.specs.Questions.{◌then◌}
-use Rattle.arbiter.specs.Answers.{if_passed}
 use Rattle.engines.specs.declared.Engine.TheVariants.{Scan, Tree, Thermometer}
 use Rattle.transcript.specs.declared.first_line.Kind.TheVariants.{RoundRobin, TokenBus}
-use Rattle.transcript.specs.declared.first_line.FirstLine.TheVariants.{Opens, Unreadable}
 use Rattle.transcript.specs.Lines.{place, split, unended, lines}
 use Rattle.transcript.specs.FirstLine.{well_formed, number, first_line}
 use Rattle.transcript.specs.Cycles.{cycle, refusal, granted, printed, run}
@@ -22,23 +19,23 @@ known_lines = (refl, refl, refl)
 
 -- the four letters; 0 and 9999 are numbers
 known-first-lines :
-    (first_line (83 ∷ 32 ∷ 48 ∷ 32 ∷ 57 ∷ 57 ∷ 57 ∷ 57 ∷ []) ≡ Opens (RoundRobin Scan) 0 9999)
-    × (first_line (84 ∷ 32 ∷ 56 ∷ 32 ∷ 49 ∷ []) ≡ Opens (RoundRobin Tree) 8 1)
-    × (first_line (80 ∷ 32 ∷ 52 ∷ 32 ∷ 50 ∷ []) ≡ Opens (RoundRobin Thermometer) 4 2)
-    × (first_line (66 ∷ 32 ∷ 49 ∷ 48 ∷ 50 ∷ 52 ∷ 32 ∷ 49 ∷ []) ≡ Opens TokenBus 1024 1)
+    (first_line (83 ∷ 32 ∷ 48 ∷ 32 ∷ 57 ∷ 57 ∷ 57 ∷ 57 ∷ []) ≡ Some (record { kind = (RoundRobin Scan); width = 0; picks = 9999 }))
+    × (first_line (84 ∷ 32 ∷ 56 ∷ 32 ∷ 49 ∷ []) ≡ Some (record { kind = (RoundRobin Tree); width = 8; picks = 1 }))
+    × (first_line (80 ∷ 32 ∷ 52 ∷ 32 ∷ 50 ∷ []) ≡ Some (record { kind = (RoundRobin Thermometer); width = 4; picks = 2 }))
+    × (first_line (66 ∷ 32 ∷ 49 ∷ 48 ∷ 50 ∷ 52 ∷ 32 ∷ 49 ∷ []) ≡ Some (record { kind = TokenBus; width = 1024; picks = 1 }))
 unfolding first_line number well_formed place
 known-first-lines = (refl, refl, refl, refl)
 
 -- a leading zero, also of four digits, a fifth digit, no number, a letter that is none, two spaces, a space or a carriage return at the end
 known-unreadable :
-    (first_line (83 ∷ 32 ∷ 48 ∷ 52 ∷ 32 ∷ 49 ∷ []) ≡ Unreadable)
-    × (first_line (83 ∷ 32 ∷ 48 ∷ 48 ∷ 48 ∷ 52 ∷ 32 ∷ 49 ∷ []) ≡ Unreadable)
-    × (first_line (83 ∷ 32 ∷ 49 ∷ 48 ∷ 48 ∷ 48 ∷ 48 ∷ 32 ∷ 49 ∷ []) ≡ Unreadable)
-    × (first_line (83 ∷ 32 ∷ 52 ∷ 32 ∷ []) ≡ Unreadable)
-    × (first_line (65 ∷ 32 ∷ 52 ∷ 32 ∷ 49 ∷ []) ≡ Unreadable)
-    × (first_line (83 ∷ 32 ∷ 32 ∷ 52 ∷ 32 ∷ 49 ∷ []) ≡ Unreadable)
-    × (first_line (83 ∷ 32 ∷ 52 ∷ 32 ∷ 49 ∷ 32 ∷ []) ≡ Unreadable)
-    × (first_line (83 ∷ 32 ∷ 52 ∷ 32 ∷ 49 ∷ 13 ∷ []) ≡ Unreadable)
+    (first_line (83 ∷ 32 ∷ 48 ∷ 52 ∷ 32 ∷ 49 ∷ []) ≡ None)
+    × (first_line (83 ∷ 32 ∷ 48 ∷ 48 ∷ 48 ∷ 52 ∷ 32 ∷ 49 ∷ []) ≡ None)
+    × (first_line (83 ∷ 32 ∷ 49 ∷ 48 ∷ 48 ∷ 48 ∷ 48 ∷ 32 ∷ 49 ∷ []) ≡ None)
+    × (first_line (83 ∷ 32 ∷ 52 ∷ 32 ∷ []) ≡ None)
+    × (first_line (65 ∷ 32 ∷ 52 ∷ 32 ∷ 49 ∷ []) ≡ None)
+    × (first_line (83 ∷ 32 ∷ 32 ∷ 52 ∷ 32 ∷ 49 ∷ []) ≡ None)
+    × (first_line (83 ∷ 32 ∷ 52 ∷ 32 ∷ 49 ∷ 32 ∷ []) ≡ None)
+    × (first_line (83 ∷ 32 ∷ 52 ∷ 32 ∷ 49 ∷ 13 ∷ []) ≡ None)
 unfolding first_line number well_formed place
 known-unreadable = (refl, refl, refl, refl, refl, refl, refl, refl)
 
@@ -54,7 +51,7 @@ known-refused :
     × (text (83 ∷ 32 ∷ 49 ∷ 48 ∷ 50 ∷ 53 ∷ 32 ∷ 49 ∷ []) ≡ heading ++ (48 ∷ 32 ∷ 114 ∷ 101 ∷ 102 ∷ 117 ∷ 115 ∷ 101 ∷ 100 ∷ 32 ∷ 49 ∷ 32 ∷ 48 ∷ 10 ∷ []))
     × (text (84 ∷ 32 ∷ 54 ∷ 32 ∷ 49 ∷ []) ≡ heading ++ (48 ∷ 32 ∷ 114 ∷ 101 ∷ 102 ∷ 117 ∷ 115 ∷ 101 ∷ 100 ∷ 32 ∷ 50 ∷ 32 ∷ 48 ∷ 10 ∷ []))
     × (text (83 ∷ 32 ∷ 52 ∷ 32 ∷ 49 ∷ 48 ∷ 48 ∷ 48 ∷ []) ≡ heading ++ (48 ∷ 32 ∷ 114 ∷ 101 ∷ 102 ∷ 117 ∷ 115 ∷ 101 ∷ 100 ∷ 32 ∷ 51 ∷ 32 ∷ 48 ∷ 10 ∷ []))
-unfolding text opened run cycle printed refusal decimal digits first_line number well_formed place split unended ◌then◌ if_passed
+unfolding text opened run cycle printed refusal decimal digits first_line number well_formed place split unended
 known-refused = (refl, refl, refl, refl, refl)
 
 -- a first line alone, and cycle lines of the wrong length
@@ -62,7 +59,7 @@ known_lengths :
     (text (83 ∷ 32 ∷ 52 ∷ 32 ∷ 49 ∷ 10 ∷ []) ≡ heading ++ [])
     × (text (83 ∷ 32 ∷ 52 ∷ 32 ∷ 49 ∷ 10 ∷ 49 ∷ 49 ∷ 49 ∷ 10 ∷ 10 ∷ 49 ∷ 49 ∷ 49 ∷ 49 ∷ 49 ∷ []) ≡ heading ++ (49 ∷ 32 ∷ 114 ∷ 101 ∷ 102 ∷ 117 ∷ 115 ∷ 101 ∷ 100 ∷ 32 ∷ 53 ∷ 32 ∷ 48 ∷ 10 ∷ 50 ∷ 32 ∷ 114 ∷ 101 ∷ 102 ∷ 117 ∷ 115 ∷ 101 ∷ 100 ∷ 32 ∷ 53 ∷ 32 ∷ 48 ∷ 10 ∷ 51 ∷ 32 ∷ 114 ∷ 101 ∷ 102 ∷ 117 ∷ 115 ∷ 101 ∷ 100 ∷ 32 ∷ 53 ∷ 32 ∷ 48 ∷ 10 ∷ []))
     × (text (66 ∷ 32 ∷ 49 ∷ 32 ∷ 49 ∷ 10 ∷ 49 ∷ []) ≡ heading ++ (49 ∷ 32 ∷ 114 ∷ 101 ∷ 102 ∷ 117 ∷ 115 ∷ 101 ∷ 100 ∷ 32 ∷ 53 ∷ 32 ∷ 48 ∷ 10 ∷ []))
-unfolding text opened run cycle printed refusal decimal digits first_line number well_formed place split unended ◌then◌ if_passed
+unfolding text opened run cycle printed refusal decimal digits first_line number well_formed place split unended
 known_lengths = (refl, refl, refl)
 
 -- 12, whatever the bytes: 65,536 of them are answered, one more is refused, and so many are read

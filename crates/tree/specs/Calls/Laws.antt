@@ -1,22 +1,19 @@
 -- Laws of the tree's calls: what is known once the questions have passed, how a call meets its definition, and that the descent
 -- decides and grants as the round-robin rule.
 -- Assumes nothing.
-use Rattle.std.specs.Prelude.{ℕ, ◌*◌, ◌^◌, ◌≤◌, ◌<◌, ◌≡◌, Bool, List, length}
-use Rattle.std.proofs.Common.{sym, ap, ◌∙◌}
-use Rattle.rules.specs.declared.Head.{Head}
+use Rattle.std.specs.Prelude.{ℕ, ◌*◌, ◌^◌, ◌≤◌, ◌<◌, ◌≡◌, refl, Bool, List, length, Ok, Err}
+use Rattle.std.proofs.Common.{sym}
+use Rattle.rules.specs.Head.{Head}
 use Rattle.rules.specs.RoundRobin.{start, grants}
 use Rattle.rules.proofs.RoundRobin.Laws as RoundRobin
 use Rattle.rules.specs.Tree as Rule
 use Rattle.rules.proofs.Tree.Laws as Tree
-use Rattle.arbiter.specs.declared.Answer.{Answer}
 use Rattle.arbiter.specs.declared.State.{State}
-use Rattle.arbiter.specs.declared.question.Verdict.{Verdict}
 use Rattle.arbiter.specs.Places.{Bits}
 use Rattle.arbiter.specs.Questions as Questions
-use Rattle.arbiter.specs.Questions.{◌then◌}
+use Rattle.arbiter.specs.Questions.{Verdict, passed, ◌then◌}
 use Rattle.arbiter.specs.Questions.Laws.{then_served, width_served, tree_width_served, one_pick_served, head_served, length_served, bits_served}
-use Rattle.arbiter.specs.Answers.{refused}
-use Rattle.arbiter.specs.Answers.Laws.{if_passed_lem, if_refused}
+use Rattle.arbiter.specs.Answers.{answered, if_passed, refused}
 use Rattle.arbiter.specs.Cycle.{asking, answer, granting}
 use Rattle.arbiter.specs.Decisions.{decision}
 use Rattle.arbiter.specs.Decisions.Laws.{decided_granted}
@@ -33,7 +30,7 @@ pub record Allowed (n m : ℕ) (h : Head) : Type 0 where
   pub one : m ≡ 1
   pub station : start h < n
 
-pub allowed : (n m : ℕ) (h : Head) → (state n m h).number ≡ 0 → Allowed n m h
+pub allowed : (n m : ℕ) (h : Head) → state n m h ≡ passed → Allowed n m h
 allowed n m h z =
     let two = Questions.width n then Questions.tree_width n in
     let c = then_served (two then Questions.one_pick m) (Questions.head n h) z in
@@ -50,7 +47,7 @@ allowed n m h z =
       station = head_served n h w.0 c.1;
     }
 
--- what is known of a cycle once all its questions have passed: r is the verdict that the call has in hand
+-- what is known of a cycle once all its questions have passed
 pub record Ready (n m : ℕ) (h : Head) (requests : List ℕ) (grantsSize nodesSize : ℕ) : Type 0 where
   pub allows : Allowed n m h
   pub asked : length requests ≡ n
@@ -58,43 +55,44 @@ pub record Ready (n m : ℕ) (h : Head) (requests : List ℕ) (grantsSize nodesS
   pub space : nodesSize ≡ 2 * n
   pub wires : Bits requests
 
-pub ready : {r : Verdict} (n m : ℕ) (h : Head) (requests : List ℕ) (grantsSize nodesSize : ℕ)
-    → r ≡ questions n m h requests grantsSize nodesSize → r.number ≡ 0 → Ready n m h requests grantsSize nodesSize
-ready n m h requests grantsSize nodesSize e z =
+pub ready : (n m : ℕ) (h : Head) (requests : List ℕ) (grantsSize nodesSize : ℕ)
+    → questions n m h requests grantsSize nodesSize ≡ passed → Ready n m h requests grantsSize nodesSize
+ready n m h requests grantsSize nodesSize z =
     let five = state n m h then Questions.read_length n (length requests) in
     let six = five then Questions.write_length n grantsSize in
     let seven = six then Questions.nodes_length n nodesSize in
-    let d = then_served seven (Questions.bits 0 requests) (ap (λ (v : Verdict). v.number) (sym e) ∙ z) in
+    let d = then_served seven (Questions.bits 0 requests) z in
     let c = then_served six (Questions.nodes_length n nodesSize) d.0 in
     let b = then_served five (Questions.write_length n grantsSize) c.0 in
     let a = then_served (state n m h) (Questions.read_length n (length requests)) b.0 in
     record {
       allows = allowed n m h a.0;
-      asked = length_served 4 n (length requests) a.1;
-      room = length_served 5 n grantsSize b.1;
-      space = length_served 6 (2 * n) nodesSize c.1;
+      asked = length_served _ n (length requests) a.1;
+      room = length_served _ n grantsSize b.1;
+      space = length_served _ (2 * n) nodesSize c.1;
       wires = bits_served requests d.1;
     }
 
--- an outcome, field by field
-outcome : {x : Answer} {g t : List ℕ} (o : Outcome) → record { answer = x; grants = g; nodes = t } ≡ o
-    → (x ≡ o.answer) × ((g ≡ o.grants) × (t ≡ o.nodes))
-outcome o e = (ap (λ (p : Outcome). p.answer) e, (ap (λ (p : Outcome). p.grants) e, ap (λ (p : Outcome). p.nodes) e))
-
-module _ {r : Verdict} (s : State) (requests former formerNodes : List ℕ)
-    (e : r ≡ questions s.width s.picks s.head requests (length former) (length formerNodes)) where
-  -- a served cycle answers and writes
-  pub written : {x : Answer} {g t : List ℕ} → r.number ≡ 0 → x ≡ answer s requests → g ≡ granting s requests
-      → t ≡ Rule.nodes s.width s.head (asking s requests)
-      → let o = cycle s requests former formerNodes in (x ≡ o.answer) × ((g ≡ o.grants) × (t ≡ o.nodes))
-  unfolding cycle
-  written z a b c = outcome (cycle s requests former formerNodes) (if_passed_lem _ e z (rw (a, b, c)))
-
-  -- a refused one leaves the former bytes
-  pub unwritten : {x : Answer} → (r.number ≡ 0 → ⊥) → x ≡ refused r s
-      → let o = cycle s requests former formerNodes in (x ≡ o.answer) × ((former ≡ o.grants) × (formerNodes ≡ o.nodes))
-  unfolding cycle
-  unwritten n a = outcome (cycle s requests former formerNodes) (if_refused _ e n (rw (a, e)))
+-- a call that decides where its questions pass, and then writes both buffers, answers and writes as a cycle is to
+pub answered_cycle : (s : State) (requests former formerNodes : List ℕ)
+    → let v = questions s.width s.picks s.head requests (length former) (length formerNodes) in
+    let o = cycle s requests former formerNodes in
+    (answered s (v then Ok (decision s.width s.picks s.head (asking s requests))) ≡ o.answer)
+    × (if_passed v (granting s requests) (λ _. former) ≡ o.grants)
+    × (if_passed v (Rule.nodes s.width s.head (asking s requests)) (λ _. formerNodes) ≡ o.nodes)
+unfolding cycle
+answered_cycle s requests former formerNodes =
+    by (questions s.width s.picks s.head requests (length former) (length formerNodes))
+  where
+    by : (v : Verdict)
+        → let o : Outcome = if_passed v
+        (record { answer = answer s requests; grants = granting s requests; nodes = Rule.nodes s.width s.head (asking s requests) })
+        (λ refusal. record { answer = refused refusal s; grants = former; nodes = formerNodes }) in
+        (answered s (v then Ok (decision s.width s.picks s.head (asking s requests))) ≡ o.answer)
+        × (if_passed v (granting s requests) (λ _. former) ≡ o.grants)
+        × (if_passed v (Rule.nodes s.width s.head (asking s requests)) (λ _. formerNodes) ≡ o.nodes)
+    by (Ok _) = (refl, refl, refl)
+    by (Err refusal) = (refl, refl, refl)
 
 module _ (n m : ℕ) (h : Head) (asks : ℕ → Bool) (a : Allowed n m h) where
   abbrev tree : List ℕ

@@ -1,7 +1,7 @@
 -- Laws of the steps: what is decided at the station that the descent reached, with its request, is what the node buffer decides.
 -- Assumes nothing.
 use Rattle.std.specs.Prelude.{ℕ, ◌+◌, ◌≤◌, ◌≡◌, Bool, true, false, List, [], ◌∷◌, get_or, set, replicate}
-use Rattle.rules.specs.declared.Head.{Head}
+use Rattle.rules.specs.Head.{Head}
 use Rattle.rules.specs.Lists.Laws as Lists
 use Rattle.rules.specs.Tree as Rule
 use Rattle.rules.proofs.Tree.Laws as Tree

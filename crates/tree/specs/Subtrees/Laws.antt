@@ -9,8 +9,8 @@ use Rattle.std.proofs.Math.Bool.{Bool, cond}
 use Rattle.std.proofs.Math.Nat.{zero-add, mul-one, two-pow-succ}
 use native.Mathlib.Omega.{arith}
 use borrow.Author.Tests.{eqb-true, eqb-false, ltb-true, ltb-false, lt-ltb, le-ltb, leb-true, le-leb, lt-leb}
-use Rattle.rules.specs.declared.Head.{Head}
-use Rattle.rules.specs.declared.Head.TheVariants.{None, At}
+use Rattle.rules.specs.Head.{Head}
+use Rattle.std.specs.Prelude.{None, Some}
 use Rattle.rules.specs.Lists.{bit, range, filter, count, before}
 use Rattle.rules.specs.Lists.Laws as Lists
 use Rattle.rules.specs.RoundRobin.{start, order, granted}
@@ -53,13 +53,13 @@ data Halves (h : Head) (asks : ℕ → Bool) (a c : ℕ) : Type 0 where
       → low h asks (a + c) c ≡ [] → Halves h asks a c
 
 -- where a head is
-is_in : (k a c : ℕ) → a ≤ k → k < a + c → inside (At k) a c ≡ true
+is_in : (k a c : ℕ) → a ≤ k → k < a + c → inside (Some k) a c ≡ true
 is_in k a c l u = rw (le-leb a k l, lt-ltb k (a + c) u)
 
-is_below : (k a c : ℕ) → k < a → inside (At k) a c ≡ false
+is_below : (k a c : ℕ) → k < a → inside (Some k) a c ≡ false
 is_below k a c l = rw (lt-leb a k l)
 
-is_above : (k a c : ℕ) → a ≤ k → a + c ≤ k → inside (At k) a c ≡ false
+is_above : (k a c : ℕ) → a ≤ k → a + c ≤ k → inside (Some k) a c ≡ false
 is_above k a c l u = rw (le-leb a k l, le-ltb k (a + c) u)
 
 -- no head in the whole
@@ -75,7 +75,7 @@ neither h asks a c i j k d e f =
 
 halves : (h : Head) (asks : ℕ → Bool) (a c : ℕ) → Halves h asks a c
 halves None asks a c = neither None asks a c refl refl refl refl refl refl
-halves (At k) asks a c =
+halves (Some k) asks a c =
     let all : a + (c + c) ≡ a + c + c = omega arith in
     Lists.split (ltb k a)
     (λ t.
@@ -83,7 +83,7 @@ halves (At k) asks a c =
     let i = is_below k a c l in
     let j = is_below k (a + c) c (omega arith) in
     let u = is_below k a (c + c) l in
-    neither (At k) asks a c i j u (rw i) (rw j) (rw u))
+    neither (Some k) asks a c i j u (rw i) (rw j) (rw u))
     (λ t.
     let l : a ≤ k = ltb-false k a t in
     Lists.split (ltb k (a + c))
@@ -113,7 +113,7 @@ halves (At k) asks a c =
     let i = is_above k a c l m in
     let j = is_above k (a + c) c m v in
     let u = is_above k a (c + c) l (omega arith) in
-    neither (At k) asks a c i j u (rw i) (rw j) (rw u))))
+    neither (Some k) asks a c i j u (rw i) (rw j) (rw u))))
 
 -- joining, by where the head is
 join_left : (x y : List ℕ) → value true (some (x ++ y)) ≡ join (value true (some x)) (value false (some y))
@@ -184,8 +184,8 @@ leads h asks a c (in_neither i j u e f g o) = rw (i, j, e, f, g, o) (lead_neithe
 -- one station: the head inside is at it, and it counts
 from_one : (h : Head) (a : ℕ) → from h a 1 ≡ a
 from_one None a = refl
-from_one (At k) a =
-    Lists.split (inside (At k) a 1)
+from_one (Some k) a =
+    Lists.split (inside (Some k) a 1)
     (λ t.
     let b = Lists.both (leb a k) (ltb k (a + 1)) t in
     rw t (omega (arith, leb-true a k b.0, ltb-true k (a + 1) b.1)))
@@ -194,7 +194,7 @@ from_one (At k) a =
 inside_one : (h : Head) (a : ℕ) → inside h a 1 ≡ head_at h a
 unfolding head_at
 inside_one None a = refl
-inside_one (At k) a =
+inside_one (Some k) a =
     Lists.split (eqb k a)
     (λ t. let e : k ≡ a = eqb-true k a t in rw t (is_in k a 1 (omega arith) (omega arith)))
     (λ f.
@@ -255,16 +255,16 @@ module _ (n : ℕ) (h : Head) (asks : ℕ → Bool) (stations : 1 ≤ n) where
       ∙ rw (rights, lefts, left, right, two-pow-succ d) (sym (joins h asks a (2 ^ d) (halves h asks a (2 ^ d))))
 
   -- the one of a single station
-  only : (a w : ℕ) → first (turn h asks a 1) ≡ At w → a ≡ w
+  only : (a w : ℕ) → first (turn h asks a 1) ≡ Some w → a ≡ w
   only a w e =
       let one : turn h asks a 1 ≡ cond (asks a) (a ∷ []) [] ++ [] = rw (high_one h asks a, low_one h asks a) in
-      let f : first (cond (asks a) (a ∷ []) [] ++ []) ≡ At w = ap first (sym one) ∙ e in
+      let f : first (cond (asks a) (a ∷ []) [] ++ []) ≡ Some w = ap first (sym one) ∙ e in
       Lists.split (asks a)
-      (λ p. let g : At a ≡ At w = rw p at f in cc)
-      (λ p. let g : None ≡ At w = rw p at f in let z : ◌≡◌ {A = ℕ} 0 1 = cc in absurd (omega arith))
+      (λ p. let g : Some a ≡ Some w = rw p at f in cc)
+      (λ p. let g : None ≡ Some w = rw p at f in let z : ◌≡◌ {A = ℕ} 0 1 = cc in absurd (omega arith))
 
   -- from node 2^j + p the descent reaches the first that asks of the stations below it
-  reaches : (d k j p a w : ℕ) → n ≡ 2 ^ (j + d) → p < 2 ^ j → a ≡ p * 2 ^ d → d ≤ k → first (turn h asks a (2 ^ d)) ≡ At w
+  reaches : (d k j p a w : ℕ) → n ≡ 2 ^ (j + d) → p < 2 ^ j → a ≡ p * 2 ^ d → d ≤ k → first (turn h asks a (2 ^ d)) ≡ Some w
       → descend n t k (2 ^ j + p) ≡ n + w
   unfolding descend child
   reaches zero k j p a w e l b f first-is =
@@ -283,7 +283,7 @@ module _ (n : ℕ) (h : Head) (asks : ℕ → Bool) (stations : 1 ≤ n) where
       let left = value_of d (suc j) (p + p) a (deeper d j e) (omega arith) base in
       let right = value_of d (suc j) (suc (p + p)) (a + 2 ^ d) (deeper d j e) (omega arith) more in
       let choice : Bool = goes_right (subtree h asks a (2 ^ d)) (subtree h asks (a + 2 ^ d) (2 ^ d)) in
-      let to : cond choice (first (turn h asks (a + 2 ^ d) (2 ^ d))) (first (turn h asks a (2 ^ d))) ≡ At w =
+      let to : cond choice (first (turn h asks (a + 2 ^ d) (2 ^ d))) (first (turn h asks a (2 ^ d))) ≡ Some w =
       sym (leads h asks a (2 ^ d) (halves h asks a (2 ^ d))) ∙ (rw (two-pow-succ d) at first-is) in
       rw (lt-ltb u n (inner d j p e l), rights, lefts, left, right)
       (Lists.split choice
@@ -302,9 +302,9 @@ below_power (suc k) = omega (arith, below_power k)
 -- the whole tree's stations that ask, in its order, are those in the rule's order
 from_start : (n : ℕ) (h : Head) → start h < n → from h 0 n ≡ start h
 from_start n None l = sym RoundRobin.start_none
-from_start n (At k) l =
+from_start n (Some k) l =
     let below : k < n = omega (arith, RoundRobin.start_at k) in
-    let is : inside (At k) 0 n ≡ true = is_in k 0 n (omega arith) (omega arith) in
+    let is : inside (Some k) 0 n ≡ true = is_in k 0 n (omega arith) (omega arith) in
     rw is (sym (RoundRobin.start_at k))
 
 turn_order : (n : ℕ) (h : Head) (asks : ℕ → Bool) → start h < n → turn h asks 0 n ≡ filter asks (order n h)
@@ -327,7 +327,7 @@ module _ (n k : ℕ) (h : Head) (asks : ℕ → Bool) (power : n ≡ 2 ^ k) (sta
   reached_is : (w : ℕ) (ws : List ℕ) → filter asks (order n h) ≡ w ∷ ws → r ≡ w
   unfolding reached
   reached_is w ws e =
-      let whole : first (turn h asks 0 (2 ^ k)) ≡ At w = rw (← power) (ap first (turn_order n h asks station ∙ e)) in
+      let whole : first (turn h asks 0 (2 ^ k)) ≡ Some w = rw (← power) (ap first (turn_order n h asks station ∙ e)) in
       let at : descend n (nodes n h asks) n 1 ≡ n + w =
       reaches n h asks (omega arith) k n 0 0 0 w (rw zero-add power) (omega arith) (sym (zero-mul (2 ^ k))) (omega (arith, below_power k)) whole in
       omega (arith, at)

@@ -1,31 +1,31 @@
 -- `bits` meets its contract: every byte that it passed is 0 or 1.
 -- Assumes nothing.
 use Prim.Native.Nat.{◌≤◌, ◌<◌}
-use mathlib.Core.Path.{sym, ap, ◌∙◌}
+use mathlib.Core.Path.{sym, ap}
 use native.Mathlib.Omega.{arith}
 use lib.ListN.{get_or}
 use borrow.Author.Tests.{lt-ltb, le-ltb}
+use Rattle.arbiter.specs.declared.refusal.Refusal.TheVariants.{NotABit}
 use Rattle.arbiter.specs.Places.Laws.{free_none, free_more, places_none, places_first}
 use Rattle.arbiter.specs.Questions.{refuse_at_first}
 use Rattle.arbiter.proofs.question.bits.Goals as goal
 
 pub loop-i-init : goal.loop-i-init
-loop-i-init c = (omega arith, free_none)
+loop-i-init c = free_none
 
 pub returns-then-bytes-i-gt1 : goal.returns-then-bytes-i-gt1
 returns-then-bytes-i-gt1 c =
     let l = c.loop-i in
     let byte = get_or c.args.bytes.now l.i 0 in
     let over : 1 < byte = omega arith in
-    c.refuse_unless.ensures
-    ∙ sym (ap (refuse_at_first 8) (places_first l.invariant.1 l.invariant.0 (omega arith) (lt-ltb 1 byte over)))
+    sym (ap (refuse_at_first NotABit) (places_first l.invariant (omega arith) (omega arith) (lt-ltb 1 byte over)))
 
 pub loop-i-preserved : goal.loop-i-preserved
 loop-i-preserved c =
     let l = c.loop-i in
     let byte = get_or c.args.bytes.now l.i 0 in
     let bit : byte ≤ 1 = omega arith in
-    (omega arith, free_more l.invariant.1 (le-ltb 1 byte bit))
+    free_more l.invariant (le-ltb 1 byte bit)
 
 pub returns : goal.returns
-returns c = c.refuse_unless-2.ensures ∙ sym (ap (refuse_at_first 8) (places_none c.loop-i.invariant.1 c.loop-i-test.false))
+returns c = sym (ap (refuse_at_first NotABit) (places_none c.loop-i.invariant (omega arith)))

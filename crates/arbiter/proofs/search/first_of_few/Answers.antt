@@ -7,13 +7,13 @@ use Rattle.arbiter.specs.Places.Laws.{free_none, free_more, places_none, places_
 use Rattle.arbiter.proofs.search.first_of_few.Goals as goal
 
 pub loop-i-init : goal.loop-i-init
-loop-i-init c = (omega arith, free_none)
+loop-i-init c = free_none
 
 pub returns-then-bytes-i-ne0 : goal.returns-then-bytes-i-ne0
-returns-then-bytes-i-ne0 c = sym (ap first (places_first c.loop-i.invariant.1 c.loop-i.invariant.0 (omega arith) (is_nonzero c.if-bytes-i-ne0.true)))
+returns-then-bytes-i-ne0 c = sym (ap first (places_first c.loop-i.invariant (omega arith) (omega arith) (is_nonzero c.if-bytes-i-ne0.true)))
 
 pub loop-i-preserved : goal.loop-i-preserved
-loop-i-preserved c = (omega arith, free_more c.loop-i.invariant.1 (is_zero c.if-bytes-i-ne0.false))
+loop-i-preserved c = free_more c.loop-i.invariant (is_zero c.if-bytes-i-ne0.false)
 
 pub returns : goal.returns
-returns c = sym (ap first (places_none c.loop-i.invariant.1 c.loop-i-test.false))
+returns c = sym (ap first (places_none c.loop-i.invariant (omega arith)))

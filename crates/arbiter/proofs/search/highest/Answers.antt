@@ -4,12 +4,12 @@ use native.Mathlib.Omega.{arith}
 use Rattle.arbiter.specs.Places.Laws.{highest_none, highest_next}
 use Rattle.arbiter.proofs.search.highest.Goals as goal
 
-pub loop-i-preserved : goal.loop-i-preserved
-loop-i-preserved c =
-    let rest = highest_next c.args.bytes.now c.loop-i.i (omega arith) in grind (arith, rest)
+pub loop-byte-preserved : goal.loop-byte-preserved
+loop-byte-preserved c =
+    let rest = highest_next c.args.bytes.now c.loop-byte.byte-index (omega arith) in grind (arith, rest)
 
 pub returns : goal.returns
 returns c =
-    let l = c.loop-i in
+    let l = c.loop-byte in
     let b = c.args.bytes.now in
-    omega (arith, highest_none b l.i c.loop-i-test.false, l.invariant)
+    omega (arith, highest_none b l.byte-index c.loop-byte-test.false, l.invariant)

@@ -1,7 +1,7 @@
 -- `join_all` meets its contract: what is left of the network gives what the whole of it gives.
 -- Assumes nothing.
 use Prim.Native.Nat.{ℕ}
-use mathlib.Core.Path.{◌≡◌, sym, ap, ◌∙◌}
+use mathlib.Core.Path.{◌≡◌, ap, ◌∙◌}
 use mathlib.Core.List.{List}
 use native.Mathlib.Omega.{arith}
 use lib.ListN.{length}
@@ -23,45 +23,20 @@ pub loop-distance-init : goal.loop-distance-init
 loop-distance-init c =
     (omega arith, omega arith, omega arith, c.requires.codes, Network.begin _ _ _ _ (omega arith))
 
-pub copy-requires : goal.copy-requires
-copy-requires c = let l = c.loop-distance in omega (arith, l.invariant.1, l.invariant.2)
-
-pub join_at-requires : goal.join_at-requires
-join_at-requires c =
-    let l = c.loop-distance in
-    record {
-      full_value = c.requires.full_value;
-      codes = as_codes _ c.copy.ensures l.invariant.3;
-      codes_value = sym c.copy.ensures;
-    }
-
-pub overflow_mul-distance : goal.overflow_mul-distance
-overflow_mul-distance c =
-    let l = c.loop-distance in
-    omega (arith, l.invariant.1)
-
-pub loop-distance-smaller : goal.loop-distance-smaller
-loop-distance-smaller c =
-    let l = c.loop-distance in
-    omega (arith, l.invariant.1)
+pub join_at-requires-clause-codes : goal.join_at-requires-clause-codes
+join_at-requires-clause-codes c = as_codes _ c.copy_from_slice.ensures.after c.loop-distance.invariant.3
 
 pub loop-distance-preserved : goal.loop-distance-preserved
 loop-distance-preserved c =
     let l = c.loop-distance in
-    let new = c.join_at.ensures ∙ ap (joined _ l.distance) c.copy.ensures in
+    let new = c.join_at.ensures ∙ ap (joined _ l.distance) c.copy_from_slice.ensures.after in
     let d = c.loop-distance-test.true in (
       omega arith,
       ap length new ∙ Network.joined_length _ _ _ ∙ l.invariant.1,
-      ap length c.copy.ensures ∙ l.invariant.1,
+      ap length c.copy_from_slice.ensures.after ∙ l.invariant.1,
       as_codes _ new (joined_codes _ _ _ l.invariant.3),
       as_left new (Network.step _ _ l.distance _ _ (omega (arith, l.invariant.1)) l.invariant.4),
     )
-
-pub shape_of-codes : goal.shape_of-codes
-shape_of-codes c = c.loop-distance.invariant.1
-
-pub shape_of-before : goal.shape_of-before
-shape_of-before c = omega (arith, c.loop-distance.invariant.2)
 
 pub returns : goal.returns
 returns c = let l = c.loop-distance in Network.done _ _ l.distance _ _ (omega (arith, l.invariant.1)) l.invariant.4

@@ -11,8 +11,8 @@ use Rattle.kogge_stone.proofs.network.join_all.Given as goal
 
 abbrev pub invariant-loop-distance : goal.invariant-loop-distance
 invariant-loop-distance l =
-    (1 ≤ l.distance) × (length l.codes ≡ length l.initial.codes) × (length l.before ≡ length l.initial.codes) × Codes (ones l.full) l.codes
-    × Left (ones l.full) (length l.initial.codes) l.distance l.codes (levels (ones l.full) (distances (length l.initial.codes)) l.initial.codes)
+    (1 ≤ l.distance) × (length l.codes ≡ length l.initial.codes) × (length l.before ≡ length l.initial.codes) × Codes (ones l.picks.code) l.codes
+    × Left (ones l.picks.code) (length l.initial.codes) l.distance l.codes (levels (ones l.picks.code) (distances (length l.initial.codes)) l.initial.codes)
 
 abbrev pub decreases-loop-distance : goal.decreases-loop-distance
 decreases-loop-distance l = length l.initial.codes - l.distance

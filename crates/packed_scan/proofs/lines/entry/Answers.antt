@@ -1,19 +1,10 @@
--- `entry` meets its contract: two entries are known without the table.
+-- `entry` meets its contract: the rows of the table are the definition's, which antt computes, so each of its entries is right.
 -- Assumes nothing.
-use mathlib.Core.Path.{sym, ◌∙◌}
-use native.Mathlib.Omega.{arith}
-use Rattle.rules.proofs.Packing.Laws.{entry_none, entry_own}
+use Rattle.std.proofs.Common.{◌∙◌, refl, ap, arith}
+use Rattle.rules.specs.Packing.{first_line, entries}
+use Rattle.packed_scan.specs.Lines.Laws.{table_entry}
 use Rattle.packed_scan.proofs.lines.entry.Goals as goal
 
-pub returns-then-rest-eq0 : goal.returns-then-rest-eq0
-returns-then-rest-eq0 c =
-    let b = c in
-    sym (entry_none b.args.byte b.args.start (omega arith) c.if-rest-eq0.true)
-
-pub returns-then-rest-eq1 : goal.returns-then-rest-eq1
-returns-then-rest-eq1 c =
-    let b = c in
-    sym (entry_own b.args.byte b.args.start b.requires c.if-rest-eq1.true)
-
 pub returns : goal.returns
-returns c = c.wide.ensures.0 ∙ c.listed.ensures
+unfolding entries first_line
+returns c = table_entry _ _ refl (omega arith) c.requires ∙ ap (λ byte. first_line byte c.args.start) c.from.ensures

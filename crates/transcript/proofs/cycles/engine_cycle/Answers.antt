@@ -6,17 +6,13 @@ use mathlib.Core.List.{List}
 use native.Mathlib.Omega.{arith}
 use Rattle.arbiter.specs.Questions.{max_width}
 use Rattle.engines.specs.Calls as Engines
-use Rattle.transcript.proofs.Zeros.{front_zeros, front_length}
+use Rattle.std.proofs.lemmas.List.{take-replicate}
 use Rattle.transcript.proofs.cycles.engine_cycle.Goals as goal
-
-pub slice_bounds-cycle-end : goal.slice_bounds-cycle-end
-slice_bounds-cycle-end c =
-    front_length (2 * c.args.s.width) (2 * max_width) (omega (arith, c.requires))
 
 pub returns : goal.returns
 returns c =
     let a = c.args in
-    let zeros = front_zeros (2 * a.s.width) (2 * max_width) (omega (arith, c.requires)) in
+    let zeros = take-replicate (2 * a.s.width) (2 * max_width) 0 (omega (arith, c.requires)) in
     let leaves = Engines.cycle a.engine a.s a.requests.now a.grants.now in
     record {
       value = c.cycle.ensures.value ∙ ap (λ (z : List ℕ). (leaves z).answer) zeros;

@@ -1,14 +1,14 @@
--- `transcript::cycles::print_lines` meets its contract. The loop's invariant: the lines before `start` are printed.
+-- `transcript::cycles::print_lines` meets its contract. The loop's invariant: the lines that the iterator has left are still to run,
+-- and its closure tests for a line feed.
 -- Assumes nothing.
-use Prim.Native.Nat.{◌-◌, ◌+◌}
-use lib.ListN.{length}
-use Rattle.transcript.specs.Lines.{lines_from}
 use Rattle.transcript.specs.Cycles as Cycles
+use Rattle.transcript.specs.Lines as Lines
+use Rattle.transcript.specs.Lines.Laws.{Tests}
 use Rattle.transcript.proofs.Runs.{Ran}
+use Rattle.std.specs.Slice.Iter.{split_callee}
 use Rattle.transcript.proofs.cycles.print_lines.Given as goal
 
-abbrev pub invariant-loop-start : goal.invariant-loop-start
-invariant-loop-start l = Ran l.kind l.body l.initial.out l.at (Cycles.run l.kind l.initial.run.state 1 (lines_from l.body l.from)) l.run l.out l.start
-
-abbrev pub decreases-loop-start : goal.decreases-loop-start
-decreases-loop-start l = length l.body + 1 - l.start
+abbrev pub invariant-loop-line : goal.invariant-loop-line
+invariant-loop-line g l =
+    Tests g.P.FnMut (split_callee l.line-iterator)
+    × Ran l.kind l.initial.out (Cycles.run l.kind l.fn.opened 1 (Lines.left l.fn.lines)) l.run l.out (Lines.left l.line-iterator)

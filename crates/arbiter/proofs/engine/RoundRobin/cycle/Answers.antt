@@ -1,0 +1,30 @@
+-- `cycle` meets its contract: a call that decides where its questions pass.
+-- Assumes nothing.
+use Rattle.std.proofs.Common.{◌∙◌, length}
+use Rattle.arbiter.specs.Answers.Laws.{answered_writes}
+use Rattle.arbiter.specs.Cycle.{questions, granting, asking}
+use Rattle.arbiter.specs.Decisions.{decision}
+use mathlib.Core.Path.{refl, ◌≡◌}
+use Rattle.arbiter.specs.Trace.{trace, end, calls, leaves}
+use mir.Syntax.{Args, fn, fn₀, method, given}
+use Rattle.arbiter.proofs.engine.RoundRobin.cycle.Code as code
+use Rattle.arbiter.proofs.engine.RoundRobin.cycle.Goals as goal
+
+-- Read off the code: a cycle decides once
+one_arbitration : (self : Args) × (engine : Args)
+    × (trace (code.function).body end
+    ≡ calls (method (given 1) 1 self) (calls (fn "arbiter::engine::arbitrate" engine) (calls (fn₀ "arbiter::State::answer") (leaves end))))
+one_arbitration = (_, _, refl)
+
+pub returns : goal.returns
+returns g c =
+    let a = c.args in
+    let s = g.Self.Arbiter.state_of a.self in
+    let requests = a.requests.now in
+    let former = a.grants.now in
+    let d = decision s.width s.picks s.head (asking s requests) in
+    let both = answered_writes (questions s requests (length former)) s d (granting s requests) former in
+    record {
+      value = c.answer.ensures ∙ rw (c.arbitrate-decided.ensures.value, c.state-s.ensures) both.0;
+      grants_after = c.arbitrate-decided.ensures.grants_after ∙ rw c.state-s.ensures both.1;
+    }

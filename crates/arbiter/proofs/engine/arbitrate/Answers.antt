@@ -1,0 +1,55 @@
+-- `arbitrate` meets its contract: where both groups of questions pass, all do, and the highest byte is in hand.
+-- Assumes nothing.
+use Rattle.std.proofs.Common.{◌≡◌, ◌∙◌, sym, ap, length, replicate, Ok}
+use Rattle.arbiter.specs.Decisions.Laws.{quiet_decides, quiet_grants}
+use Rattle.arbiter.specs.Places.{highest}
+use Rattle.arbiter.specs.Questions.Laws.{read_passed, ready}
+use mathlib.Core.Path.{refl}
+use mir.Syntax.{Callee, Args, fn, fn₀, method, given}
+use Rattle.arbiter.specs.Trace.{Trace, trace, end, computes, calls, leaves, either}
+use Rattle.arbiter.proofs.engine.arbitrate.Code as code
+use Rattle.arbiter.proofs.engine.arbitrate.Goals as goal
+
+-- where a `?` leaves
+abbrev asked : Callee → Callee → Trace → Trace
+asked branch back t = calls branch (either (either end (either (calls back (leaves end)) end end) end) end t)
+
+-- Read off the code, for every arbiter that grants by the rule: a cycle that is not refused and in which somebody asks grants once,
+-- and nothing is repeated
+one_count : (b : Callee) × (r : Callee) × (b₂ : Callee) × (r₂ : Callee) × (bytes : Args) × (arbiter : Args)
+    × (trace (code.function).body end
+    ≡ calls (fn₀ "arbiter::question::state")
+    (asked b r
+    (calls (fn₀ "arbiter::question::cycle")
+    (asked b₂ r₂
+    (computes
+    (either (calls (fn "core::slice::edits::slice+T::fill" bytes) (calls (fn₀ "arbiter::idle") (leaves end))) end
+    (calls (method (given 0) 0 arbiter) (leaves end))))))))
+one_count = (_, _, _, _, _, _, refl)
+
+pub returns-then-high-eq0 : goal.returns-then-high-eq0
+returns-then-high-eq0 g c =
+    let a = c.args in
+    let size = length a.grants.now in
+    let k = read_passed _ a.width a.requests.now size (sym c.state.ensures ∙ c.in_ok-state.was) (sym c.cycle.ensures ∙ c.in_ok-high.was) in
+    let quiet : highest a.requests.now ≡ 0 = sym k.1 ∙ c.if-high-eq0.true in
+    let r = ready a.width a.picks a.head a.requests.now size k.0 in
+    let zeros : c.fill.new.self ≡ replicate size 0 = c.fill.ensures.after (λ y e. e) in
+    record {
+      value = rw k.0 (ap Ok (c.idle.ensures ∙ quiet_decides a.width a.picks a.head a.requests.now quiet));
+      grants_after = rw k.0 (zeros ∙ rw r.lends.room (quiet_grants a.width a.picks a.head a.requests.now quiet));
+    }
+
+pub grant-requires : goal.grant-requires
+grant-requires g c =
+    let a = c.args in
+    let size = length a.grants.now in
+    let k = read_passed _ a.width a.requests.now size (sym c.state.ensures ∙ c.in_ok-state.was) (sym c.cycle.ensures ∙ c.in_ok-high.was) in
+    ready a.width a.picks a.head a.requests.now size k.0
+
+pub returns : goal.returns
+returns g c =
+    let a = c.args in
+    let size = length a.grants.now in
+    let k = read_passed _ a.width a.requests.now size (sym c.state.ensures ∙ c.in_ok-state.was) (sym c.cycle.ensures ∙ c.in_ok-high.was) in
+    record { value = rw k.0 (ap Ok c.grant.ensures.value); grants_after = rw k.0 c.grant.ensures.grants_after }

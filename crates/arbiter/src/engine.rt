@@ -1,0 +1,95 @@
+// What arbiters do alike. Each is a state that its kind serves, and a call is a method on it.
+ghost use Rattle.std.specs.Prelude.{ℕ, ◌≡◌, length, Ok};
+ghost use Rattle.rules.specs.Head as Heads;
+ghost use Rattle.rules.specs.RoundRobin as Rule;
+ghost use Rattle.arbiter.specs.declared.State as States;
+ghost use Rattle.arbiter.specs.Answers as Answers;
+ghost use Rattle.arbiter.specs.Cycle as Cycle;
+ghost use Rattle.arbiter.specs.Decisions.{requested, decision};
+ghost use Rattle.arbiter.specs.Questions as Questions;
+ghost use Rattle.arbiter.specs.Questions.{◌then◌};
+ghost use Rattle.arbiter.specs.Questions.Laws.{Ready};
+
+use crate::question::Verdict;
+use crate::refusal::Refusal;
+use crate::{Answer, Decision, State, idle, question};
+use rules::Head;
+
+// An arbiter: what it asks about a state, and the state that it serves.
+pub trait Arbiter: Copy {
+    ghost questions: { ℕ → ℕ → Heads.Head → Questions.Verdict };
+
+    ghost state_of: { Self → States.State };
+
+    // The questions about a state, in their order.
+    fn ask(width: usize, picks: usize, head: Head) -> Verdict
+        ensures { result ≡ questions width picks head };
+
+    // The state.
+    fn state(self) -> State
+        ensures { result ≡ state_of self };
+
+    // Opens with no head. Asks what the arbiter asks about a state: each asks 1 and 3, so a width of 1,025 is refused by 1, nine picks
+    // by 3.
+    final fn open(width: usize, picks: usize) -> Answer
+        ensures { result ≡ Answers.opened (questions width picks None) width picks None }
+    {
+        opening::<Self>(width, picks, None)
+    }
+
+    // Opens with a head. Asks the same: of 4 stations, head 4 is refused by 4.
+    final fn open_at(width: usize, picks: usize, head: usize) -> Answer
+        ensures { result ≡ Answers.opened (questions width picks (Some head)) width picks (Some head) }
+    {
+        opening::<Self>(width, picks, Some(head))
+    }
+}
+
+// Makes a state of these.
+fn opening<A: Arbiter>(width: usize, picks: usize, head: Head) -> Answer
+    ensures { result ≡ Answers.opened (A.questions width picks head) width picks head }
+{
+    Answer::opened(A::ask(width, picks, head), width, picks, head)
+}
+
+// An arbiter that grants by the round-robin rule, a byte for each station.
+pub trait RoundRobin: Arbiter {
+    // The grants of a cycle that no question refuses. The grant buffer may hold anything before. An arbiter gives this, and `cycle`
+    // alone calls it, once its questions have passed: so it asks of its caller what they have answered. It is public since arbiters
+    // lie in other crates.
+    fn grant(width: usize, picks: usize, head: Head, requests: &[u8], grants: &mut [u8]) -> Decision
+        requires { Ready width picks head requests.now (length grants.old) }
+        ensures value { result ≡ decision width picks head (requested requests.now) }
+        ensures grants_after { grants.new ≡ Rule.grants width picks head (requested requests.now) };
+
+    // One cycle: writes the grants of these requests, and answers with their count and the next state. Asks 1, 3, 4, 5, 6
+    // and 8. With 4 stations, 2 picks, head 3 and all asking it grants 3 and 0, and the next head is 1.
+    final fn cycle(self, requests: &[u8], grants: &mut [u8]) -> Answer
+        ensures value { result ≡ (Cycle.cycle (Self.state_of self) requests.now grants.old).answer }
+        ensures grants_after { grants.new ≡ (Cycle.cycle (Self.state_of self) requests.now grants.old).written }
+    {
+        let s = self.state();
+        let decided = arbitrate::<Self>(s.width, s.picks, s.head, requests, grants);
+        s.answer(decided)
+    }
+}
+
+// The questions of a cycle, and what it decides where they pass. Where the highest byte of the requests is 0 nobody asks.
+fn arbitrate<E: RoundRobin>(
+    width: usize,
+    picks: usize,
+    head: Head,
+    requests: &[u8],
+    grants: &mut [u8],
+) -> Result<Decision, Refusal>
+    ensures value { result ≡ (Cycle.asked width picks head requests.now (length grants.old) then Ok (decision width picks head (requested requests.now))) }
+    ensures grants_after { grants.new ≡ Answers.if_passed (Cycle.asked width picks head requests.now (length grants.old)) (Rule.grants width picks head (requested requests.now)) (λ _. grants.old) }
+{
+    question::state(width, picks, head)?;
+    let high = question::cycle(width, requests, grants.len())?;
+    if high == 0 {
+        grants.fill(0);
+        return Ok(idle(width, head));
+    }
+    Ok(E::grant(width, picks, head, requests, grants))
+}

@@ -1,0 +1,6 @@
+-- Where the priority order starts: 01's head, "a station number or none".
+-- Assumes nothing.
+use Rattle.std.specs.Prelude.{ℕ, Option}
+
+abbrev pub Head : Type 0
+Head = Option ℕ
