@@ -21,11 +21,11 @@ pub trait Arbiter: Copy {
 
     ghost state_of: { Self → States.State };
 
-    // The questions about a state, in their order.
+    // The questions about a state, in their order. It has no default: what it promises is the arbiter's own.
     fn ask(width: usize, picks: usize, head: Head) -> Verdict
         ensures { result ≡ questions width picks head };
 
-    // The state.
+    // The state. It has no default, since a trait sees no field.
     fn state(self) -> State
         ensures { result ≡ state_of self };
 

@@ -6,7 +6,7 @@ ghost use Rattle.arbiter.specs.Questions as Questions;
 ghost use Rattle.arbiter.specs.Questions.{◌then◌};
 
 use crate::refusal::Refusal;
-use crate::search::highest;
+use crate::search::{first_above, highest};
 use crate::{MAX_PICKS, MAX_WIDTH};
 use rules::Head;
 
@@ -44,7 +44,7 @@ pub fn one_pick(picks: usize) -> Verdict
     refuse_unless(picks == 1, Refusal::Picks)
 }
 
-// Question 4: is the head none or a station?
+// Question 4: is the head none or a station? A match: with `is_none_or` a cycle of the packed scan took a tenth longer.
 pub fn head(width: usize, head: Head) -> Verdict
     ensures { result ≡ Questions.head width head }
 {
@@ -54,7 +54,8 @@ pub fn head(width: usize, head: Head) -> Verdict
     }
 }
 
-// Question 5: is the buffer to be read as long as stated?
+// Question 5: is the buffer to be read as long as stated? It takes the length alone, as question 6 does: that is all it is about, and a
+// refusal of each is its own.
 pub fn read_length(stated: usize, length: usize) -> Verdict
     ensures { result ≡ Questions.read_length stated length }
 {
@@ -72,10 +73,8 @@ pub fn write_length(stated: usize, length: usize) -> Verdict
 pub fn bits(from: usize, bytes: &[u8]) -> Verdict
     ensures { result ≡ Questions.bits from bytes.now }
 {
-    for i in from..bytes.len() {
-        if 1 < bytes[i] {
-            return Err(Refusal::NotABit(i));
-        }
+    if let Some(place) = first_above(1, from, bytes) {
+        return Err(Refusal::NotABit(place));
     }
     Ok(())
 }

@@ -52,17 +52,7 @@ impl Refusal {
             Refusal::NotABit(place) => place,
             Refusal::SecondOne(place) => place,
             Refusal::UnusedBit(place) => place,
-            Refusal::Width => 0,
-            Refusal::TreeWidth => 0,
-            Refusal::Picks => 0,
-            Refusal::HeadRange => 0,
-            Refusal::ReadLength => 0,
-            Refusal::WriteLength => 0,
-            Refusal::NodesLength => 0,
-            Refusal::Acknowledge => 0,
-            Refusal::FirstLine => 0,
-            Refusal::InputLength => 0,
-            Refusal::Code => 0,
+            _ => 0,
         }
     }
 }

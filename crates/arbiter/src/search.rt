@@ -1,5 +1,6 @@
-// Searching bytes: the highest of them, the first that is not 0, and the first 1.
-ghost use Rattle.std.specs.Prelude.{◌≡◌, ◌+◌, ◌/◌, ◌≤◌, ◌<◌, length, take, drop};
+// Searching bytes: the highest of them, the first that is not 0, and the first 1. A search goes on from a place and answers with a place
+// of the whole buffer, so it takes both.
+ghost use Rattle.std.specs.Prelude.{◌≡◌, ◌+◌, ◌/◌, ◌≤◌, ◌<◌, ltb, length, take, drop};
 ghost use Rattle.std.specs.Int.Count.{count_trailing_zeros};
 ghost use Rattle.arbiter.specs.Places as Places;
 ghost use Rattle.arbiter.specs.Words as Words;
@@ -38,7 +39,7 @@ pub fn first_nonzero(from: usize, bytes: &[u8]) -> Option<usize>
     ensures { result ≡ Places.first (Places.nonzero from bytes.now) }
 {
     if bytes.len() < 8 {
-        return first_of_few(from, bytes);
+        return first_above(0, from, bytes);
     }
     let last = bytes.len() - 8;
     let mut i = from;
@@ -49,15 +50,15 @@ pub fn first_nonzero(from: usize, bytes: &[u8]) -> Option<usize>
         }
         i += 8;
     }
-    first_of_few(i, bytes)
+    first_above(0, i, bytes)
 }
 
-// The same, one byte at a time.
-fn first_of_few(from: usize, bytes: &[u8]) -> Option<usize>
-    ensures { result ≡ Places.first (Places.nonzero from bytes.now) }
+// The place of the first byte from `from` on that is above `limit`, or none, one byte at a time.
+pub(crate) fn first_above(limit: u8, from: usize, bytes: &[u8]) -> Option<usize>
+    ensures { result ≡ Places.first (Places.places (ltb limit) from bytes.now) }
 {
     for i in from..bytes.len() {
-        if bytes[i] != 0 {
+        if limit < bytes[i] {
             return Some(i);
         }
     }

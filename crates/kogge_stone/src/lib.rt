@@ -159,7 +159,8 @@ fn grant_round(full: u8, first: usize, requests: &[u8], counts: &[u8], grants: &
     grant_run(full, low, low_counts, low_grants);
 }
 
-// Writes the grants of a run of stations, of which `counts` has the count before each.
+// Writes the grants of a run of stations, of which `counts` has the count before each. By index, since of a buffer that is written
+// through `iter_mut` a proof knows the length alone.
 fn grant_run(full: u8, requests: &[u8], counts: &[u8], grants: &mut [u8])
     requires counts_len { length counts.now ≡ length requests.now }
     requires grants_len { length grants.old ≡ length requests.now }

@@ -13,7 +13,8 @@ pub fn is_code(picks: usize, byte: u8) -> bool
     (1..=8).contains(&picks) && code(counted(picks, byte)) == byte
 }
 
-// The code of the sum of the counts of two codes, or of `picks` if that is smaller. 0 where one of them is no code for `picks`.
+// The code of the sum of the counts of two codes, or of `picks` if that is smaller. 0 where one of them is no code for `picks`: 01 says that
+// a refused sum has code 0.
 #[tactic(auto, using(crate::specs::Codes::Laws::code_picks, crate::specs::Codes::Laws::counted_le), unfolding(crate::specs::Codes::sum))]
 pub fn sum(picks: usize, left: u8, right: u8) -> u8
     ensures { result ≡ Codes.sum picks left right }

@@ -115,7 +115,8 @@ fn reach(width: usize, picks: usize, start: usize, requests: &[u8]) -> usize
     )
 }
 
-// How far a station's grant reaches: one more than its distance, or 0 where it is not granted.
+// How far a station's grant reaches: one more than its distance, or 0 where it is not granted. As a number it is ordered as it should
+// be, so the farthest is the greatest.
 #[tactic(auto, using(crate::specs::Turns::Laws::distance_le), unfolding(crate::specs::Turns::extent))]
 fn extent(width: usize, picks: usize, start: usize, requests: &[u8], station: usize) -> usize
     ensures { result ≡ Turns.extent width picks start requests.now station }

@@ -16,7 +16,8 @@ use rules::Head;
 #[derive(Clone, Copy)]
 pub struct Scan(pub State);
 
-// How far a walk has come: how many it has granted, and whom it granted last.
+// How far a walk has come: how many it has granted, and whom it granted last. The last says nothing while the count is 0: an Option of
+// both would be taken apart at each grant and at the end.
 #[derive(Clone, Copy)]
 struct Walk {
     count: usize,
@@ -57,8 +58,7 @@ impl RoundRobin for Scan {
 }
 
 // Grants those that ask of the stations from `from` up to `to`, in that order, until the picks are used up: it searches for one
-// after the other. `walk` is how far the walk has come before, and the result how far it has come then. It has as many turns as grants, and
-// the index goes on behind the last.
+// after the other. `walk` is how far the walk has come before, and the result how far it has come then.
 fn walk_run(
     picks: usize,
     requests: &[u8],
@@ -76,13 +76,15 @@ fn walk_run(
     let run = &requests[..to];
     let mut walk = walk;
     let mut i = from;
-    while walk.count < picks {
+    for count in walk.count..picks {
         let Some(station) = first_one(i, run) else {
             return walk;
         };
         grants[station] = 1;
-        walk.count += 1;
-        walk.last = station;
+        walk = Walk {
+            count: count + 1,
+            last: station,
+        };
         i = station + 1;
     }
     walk

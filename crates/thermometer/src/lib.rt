@@ -20,7 +20,7 @@ use rules::Head;
 #[derive(Clone, Copy)]
 pub struct Thermometer(pub State);
 
-// How far a walk has come: the code of how many it has counted, and whom it granted last.
+// How far a walk has come: the code of how many it has counted, and whom it granted last, which says nothing while the code is 0.
 #[derive(Clone, Copy)]
 struct Walk {
     code: u8,
@@ -44,7 +44,7 @@ impl Arbiter for Thermometer {
 
 impl RoundRobin for Thermometer {
     // Goes once round, from the head to the last station, and then from 0 up to the head: what it has counted then is the number
-    // of grants.
+    // of grants. It stands beside the scan's, which is like it: a theorem reads its two runs off this code by name.
     fn grant(
         width: usize,
         picks: usize,

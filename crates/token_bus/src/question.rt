@@ -11,10 +11,7 @@ use rules::Head;
 fn token(width: usize, head: Head) -> Verdict
     ensures { result ≡ Questions.token width head }
 {
-    match head {
-        None => Err(Refusal::HeadRange),
-        Some(t) => question::refuse_unless(t < width, Refusal::HeadRange),
-    }
+    question::refuse_unless(head.is_some_and(|t| t < width), Refusal::HeadRange)
 }
 
 // Question 9: is acknowledge 0 or 1?

@@ -24,7 +24,7 @@ pub struct FirstLine {
 }
 
 // Reads a first line, if it is readable: the letter, a space, the stations up to the next space, and the picks.
-#[tactic(auto, unfolding(crate::specs::FirstLine::first_line))]
+#[tactic(auto, using(crate::proofs::Readings::single, crate::proofs::Readings::reads), unfolding(crate::specs::FirstLine::first_line))]
 pub(crate) fn read(line: &[u8]) -> Option<FirstLine>
     ensures { result ≡ Spec.first_line line.now }
 {
@@ -41,7 +41,8 @@ pub(crate) fn read(line: &[u8]) -> Option<FirstLine>
     Some(FirstLine { kind, width, picks })
 }
 
-// The kind of arbiter that a letter names.
+// The kind of arbiter that a letter names. Only a first line has such a letter, and a wrong one has no error of its own, so this is
+// no `TryFrom`.
 fn named(character: u8) -> Option<Kind>
     ensures { result ≡ Spec.letter character }
 {
@@ -54,7 +55,8 @@ fn named(character: u8) -> Option<Kind>
     }
 }
 
-// A number of one to `MAX_DIGITS` digits, with no leading zero except 0 itself.
+// A number of one to `MAX_DIGITS` digits, with no leading zero except 0 itself. The library's `parse` takes a sign and leading zeros,
+// and only of a `str`.
 #[tactic(auto, unfolding(crate::specs::FirstLine::number, crate::specs::FirstLine::well_formed))]
 fn read_number(digits: &[u8]) -> Option<usize>
     ensures { result ≡ Spec.number digits.now }

@@ -13,6 +13,7 @@ ghost use Rattle.transcript.specs.Lines as Lines;
 ghost use Rattle.transcript.specs.Text as Text;
 ghost use Rattle.transcript.specs.Text.{Counts};
 
+use crate::cycles::Progress;
 use arbiter::refusal::Refusal;
 use text::Output;
 
@@ -69,7 +70,14 @@ fn answer(body: &[u8], out: &mut Output)
     };
     let opened = cycles::open(first.kind, first.width, first.picks);
     match opened.outcome {
-        Ok(_) => cycles::print_lines(first.kind, opened.state, lines, out),
+        Ok(_) => {
+            let run = Progress {
+                kind: first.kind,
+                state: opened.state,
+                number: 1,
+            };
+            run.print_lines(lines, out)
+        }
         Err(refusal) => output::put_refusal(0, refusal, out),
     }
 }

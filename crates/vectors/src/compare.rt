@@ -1,4 +1,5 @@
-// States, and comparing what calls answer with what they should.
+// States, and comparing what calls answer with what they should. A refusal is expected by its number, a literal: the papers give
+// refusals as numbers, and that the calls' refusals have these is tested too.
 use crate::engine::Engine;
 use arbiter::refusal::Refusal;
 use arbiter::{Answer, State};
@@ -26,10 +27,10 @@ pub(crate) fn serves(a: Answer, count: usize, state: State) -> bool {
 
 // Whether a call is refused by this number at this place and leaves this state.
 pub(crate) fn refuses(a: Answer, number: usize, place: usize, state: State) -> bool {
-    match a.outcome {
-        Ok(_) => false,
-        Err(refusal) => refusal.number() == number && refusal.place() == place && a.state == state,
-    }
+    let outcome = a
+        .outcome
+        .map_err(|refusal| (refusal.number(), refusal.place()));
+    outcome == Err((number, place)) && a.state == state
 }
 
 // Whether a call that makes a state is refused by this number at this place.
@@ -38,18 +39,15 @@ pub(crate) fn makes_nothing(a: Answer, number: usize, place: usize) -> bool {
 }
 
 // Opens with the width, the picks and the head of a state. Whether this makes the state or is refused by this number.
-pub(crate) fn opening(engine: Engine, s: State, refusal: Option<usize>) -> bool {
+pub(crate) fn opening(engine: Engine, s: State, expected: Result<(), usize>) -> bool {
     let a = engine.open(s);
-    match refusal {
-        None => serves(a, 0, s),
-        Some(number) => makes_nothing(a, number, 0),
+    match expected {
+        Ok(()) => serves(a, 0, s),
+        Err(number) => makes_nothing(a, number, 0),
     }
 }
 
 // Whether a sum is this code, or is refused by this number.
-pub(crate) fn sum(sum: Result<u8, Refusal>, refusal: Option<usize>, code: u8) -> bool {
-    match sum {
-        Ok(sum) => refusal.is_none() && sum == code,
-        Err(refused) => Some(refused.number()) == refusal && refused.place() == 0 && code == 0,
-    }
+pub(crate) fn sum(sum: Result<u8, Refusal>, expected: Result<u8, usize>) -> bool {
+    sum.map_err(Refusal::number) == expected
 }

@@ -6,14 +6,6 @@ use arbiter::State;
 use one_hot::OneHot;
 use snapshot::Snapshot;
 
-// What a state is converted to.
-#[derive(Clone, Copy, Debug, PartialEq, Eq)]
-pub enum Form {
-    OneHot,
-    Snapshot,
-    ShortSnapshot,
-}
-
 // The widths.
 static WIDTHS: [usize; 16] = [
     1, 2, 3, 8, 9, 64, 127, 128, 255, 256, 257, 511, 512, 513, 1023, 1024,
@@ -22,23 +14,23 @@ static WIDTHS: [usize; 16] = [
 // 1,025 heads, 16 widths.
 pub(crate) const CASES: usize = 1025 * 16;
 
-// The case of a number: a state with as many picks as it may have. As a short snapshot it has a width of 256 at most.
-pub(crate) fn case(form: Form, i: usize) -> Option<bool> {
+// The widest that the four bytes of a short snapshot hold.
+pub(crate) const SHORT_WIDEST: usize = 256;
+
+// The case of a number: whether a state no wider than `widest`, with as many picks as it may have, is converted as it should be.
+pub(crate) fn case<F: FnOnce(State) -> bool>(i: usize, widest: usize, is_same: F) -> Option<bool>
+    requires { F.IsAlwaysCallable is_same }
+{
     let width = WIDTHS[i / 1025 % 16];
     let head = small::head(i % 1025);
-    if !small::is_within(head, width) || (form == Form::ShortSnapshot && 256 < width) {
+    if !small::is_within(head, width) || widest < width {
         return None;
     }
-    let s = compare::state(width, width.min(8), head);
-    Some(match form {
-        Form::OneHot => images(s),
-        Form::Snapshot => snapshots(s, &snapshot(s)),
-        Form::ShortSnapshot => compare::serves(Snapshot::read(&short(s)), 0, s),
-    })
+    Some(is_same(compare::state(width, width.min(8), head)))
 }
 
 // Whether a state's image is zeros but for the head's byte, and is read into a state with another head.
-fn images(s: State) -> bool {
+pub(crate) fn images(s: State) -> bool {
     let width = s.width.min(WIDEST);
     let mut known = [0u8; WIDEST];
     if let Some(byte) = s.head.and_then(|station| known.get_mut(station)) {
@@ -53,12 +45,26 @@ fn images(s: State) -> bool {
         && &*image == known
 }
 
-// Whether a state is written as these bytes, and these are read as the state.
-fn snapshots(s: State, known: &[u8; 6]) -> bool {
+// Whether a state is written as its snapshot, and this is read as the state.
+pub(crate) fn snapshots(s: State) -> bool {
+    let snapshot = snapshot(s);
+    is_read(s, &snapshot) && is_written(s, &snapshot)
+}
+
+// Whether a state's short snapshot is read as the state.
+pub(crate) fn short_snapshots(s: State) -> bool {
+    is_read(s, &short(s))
+}
+
+// Whether these bytes are read as a state.
+fn is_read(s: State, known: &[u8]) -> bool {
+    compare::serves(Snapshot::read(known), 0, s)
+}
+
+// Whether a state is written as these bytes.
+fn is_written(s: State, known: &[u8]) -> bool {
     let mut written = [7u8; 6];
-    compare::serves(Snapshot(s).write(&mut written), 0, s)
-        && compare::serves(Snapshot::read(known), 0, s)
-        && written == *known
+    compare::serves(Snapshot(s).write(&mut written), 0, s) && written.as_slice() == known
 }
 
 // The width less one, low byte first, the picks, the head or 0, low byte first, and 1 if there is a head.
@@ -76,7 +82,7 @@ fn snapshot(s: State) -> [u8; 6] {
     ]
 }
 
-// The same in four bytes.
+// The same in four bytes, apart from the six so that either layout can be held to the paper's byte by byte.
 fn short(s: State) -> [u8; 4] {
     let head = s.head;
     [
@@ -94,96 +100,79 @@ pub(crate) fn byte(n: usize) -> u8 {
 
 // A snapshot that is written down, and the state that it holds.
 #[derive(Clone, Copy)]
-struct Saved<const N: usize> {
-    bytes: [u8; N],
+pub struct Saved {
+    bytes: &'static [u8],
     width: usize,
     picks: usize,
     head: Option<usize>,
 }
 
-impl<const N: usize> Saved<N> {
-    // The state.
-    fn state(&self) -> State {
-        compare::state(self.width, self.picks, self.head)
-    }
-}
-
-// Four bytes, as they were saved when there was no other form.
-static SHORT: [Saved<4>; 5] = [
+// Five of four bytes, as they were saved when there was no other form, and five of six.
+pub(crate) static SAVED: [Saved; 10] = [
     Saved {
-        bytes: [3, 2, 1, 1],
+        bytes: &[3, 2, 1, 1],
         width: 4,
         picks: 2,
         head: Some(1),
     },
     Saved {
-        bytes: [0, 1, 0, 0],
+        bytes: &[0, 1, 0, 0],
         width: 1,
         picks: 1,
         head: None,
     },
     Saved {
-        bytes: [15, 8, 0, 1],
+        bytes: &[15, 8, 0, 1],
         width: 16,
         picks: 8,
         head: Some(0),
     },
     Saved {
-        bytes: [254, 1, 0, 0],
+        bytes: &[254, 1, 0, 0],
         width: 255,
         picks: 1,
         head: None,
     },
     Saved {
-        bytes: [255, 8, 255, 1],
+        bytes: &[255, 8, 255, 1],
         width: 256,
         picks: 8,
         head: Some(255),
     },
-];
-
-// Six bytes.
-static LONG: [Saved<6>; 5] = [
     Saved {
-        bytes: [3, 0, 2, 1, 0, 1],
+        bytes: &[3, 0, 2, 1, 0, 1],
         width: 4,
         picks: 2,
         head: Some(1),
     },
     Saved {
-        bytes: [0, 1, 1, 0, 1, 1],
+        bytes: &[0, 1, 1, 0, 1, 1],
         width: 257,
         picks: 1,
         head: Some(256),
     },
     Saved {
-        bytes: [255, 1, 8, 0, 0, 0],
+        bytes: &[255, 1, 8, 0, 0, 0],
         width: 512,
         picks: 8,
         head: None,
     },
     Saved {
-        bytes: [231, 3, 3, 88, 2, 1],
+        bytes: &[231, 3, 3, 88, 2, 1],
         width: 1000,
         picks: 3,
         head: Some(600),
     },
     Saved {
-        bytes: [255, 3, 8, 255, 3, 1],
+        bytes: &[255, 3, 8, 255, 3, 1],
         width: 1024,
         picks: 8,
         head: Some(1023),
     },
 ];
 
-// The snapshots of four bytes, and then those of six.
-pub(crate) const KNOWN: usize = 10;
-
-// Whether one is read as its state, and six bytes are what the state is written as.
-pub(crate) fn known(i: usize) -> Option<bool> {
-    if let Some(saved) = SHORT.get(i) {
-        return Some(compare::serves(Snapshot::read(&saved.bytes), 0, saved.state()));
-    }
-    let saved = LONG.get(i.checked_sub(5)?)?;
-    Some(snapshots(saved.state(), &saved.bytes))
+// Whether one is read as its state, and is what the state is written as, unless it has four bytes: these are read alone.
+pub(crate) fn known(saved: &Saved) -> bool {
+    let s = compare::state(saved.width, saved.picks, saved.head);
+    is_read(s, saved.bytes) && (saved.bytes.len() == 4 || is_written(s, saved.bytes))
 }

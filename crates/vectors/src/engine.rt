@@ -16,35 +16,31 @@ pub(crate) const NODES: usize = 2 * WIDEST;
 // What grants: the packed scan by packing wires, the others by the wires themselves.
 #[derive(Clone, Copy, Debug, PartialEq, Eq)]
 pub enum Engine {
-    Scan,
-    Tree,
-    Thermometer,
-    KoggeStone,
+    RoundRobin(engines::Engine),
     Bus,
     Packed,
 }
 
+// The dispatcher's four by short names, since groups and comparisons name them often.
+pub(crate) const SCAN: Engine = Engine::RoundRobin(engines::Engine::Scan);
+
+pub(crate) const TREE: Engine = Engine::RoundRobin(engines::Engine::Tree);
+
+pub(crate) const THERMOMETER: Engine = Engine::RoundRobin(engines::Engine::Thermometer);
+
+pub(crate) const KOGGE_STONE: Engine = Engine::RoundRobin(engines::Engine::KoggeStone);
+
 // The engines by number.
 pub(crate) static ENGINES: [Engine; 6] = [
-    Engine::Scan,
-    Engine::Tree,
-    Engine::Thermometer,
-    Engine::KoggeStone,
+    SCAN,
+    TREE,
+    THERMOMETER,
+    KOGGE_STONE,
     Engine::Bus,
     Engine::Packed,
 ];
 
 impl Engine {
-    // The engine behind the dispatcher: the plain scan's where it is not behind it.
-    fn dispatched(self) -> engines::Engine {
-        match self {
-            Engine::Tree => engines::Engine::Tree,
-            Engine::Thermometer => engines::Engine::Thermometer,
-            Engine::KoggeStone => engines::Engine::KoggeStone,
-            _ => engines::Engine::Scan,
-        }
-    }
-
     // Whether it serves with such a head: the bus with none does not.
     pub(crate) fn takes(self, head: Option<usize>) -> bool {
         self != Engine::Bus || head.is_some()
@@ -55,22 +51,24 @@ impl Engine {
         ensures { result ≤ 8 }
     {
         match self {
-            Engine::Tree => usize::from(width.is_power_of_two() && 1 < width && width <= WIDEST),
+            Engine::RoundRobin(engines::Engine::Tree) => {
+                usize::from(width.is_power_of_two() && 1 < width && width <= WIDEST)
+            }
+            Engine::RoundRobin(_) => width.min(8),
             Engine::Bus | Engine::Packed => width.min(1),
-            _ => width.min(8),
         }
     }
 
     // Opens with a state's width and picks, and with its head if it has one.
     pub(crate) fn open(self, s: State) -> Answer {
         match self {
+            Engine::RoundRobin(engine) => opened(
+                s,
+                |width, picks| Dispatch::open(engine, width, picks),
+                |width, picks, head| Dispatch::open_at(engine, width, picks, head),
+            ),
             Engine::Bus => opened(s, TokenBus::open, TokenBus::open_at),
             Engine::Packed => opened(s, PackedScan::open, PackedScan::open_at),
-            _ => opened(
-                s,
-                |width, picks| Dispatch::open(self.dispatched(), width, picks),
-                |width, picks, head| Dispatch::open_at(self.dispatched(), width, picks, head),
-            ),
         }
     }
 
@@ -84,9 +82,9 @@ impl Engine {
         acknowledge: u8,
     ) -> Answer {
         match self {
+            Engine::RoundRobin(engine) => Dispatch(s).cycle(engine, requests, grants, nodes),
             Engine::Bus => TokenBus(s).cycle(requests, grants, acknowledge),
             Engine::Packed => packed::cycle(s, requests, grants),
-            _ => Dispatch(s).cycle(self.dispatched(), requests, grants, nodes),
         }
     }
 }

@@ -1,19 +1,19 @@
 // The known turns of 01 that are not starred, and 000's worked example: openings and node buffers. The known sums are in `sums`.
-use crate::engine::{ENGINES, Engine};
+use crate::engine::{self, ENGINES};
 use crate::{compare, model, small, sums};
 
-// The width and the picks of an opening, the number of its refusal, and that of the tree's. Widths 0, 1,025, 256 and 1,024, nine
-// picks, and three of two stations; then the three widths that only the tree refuses.
-static OPENINGS: [(usize, usize, Option<usize>, Option<usize>); 9] = [
-    (0, 1, Some(1), Some(1)),
-    (1025, 1, Some(1), Some(1)),
-    (256, 1, None, None),
-    (1024, 1, None, None),
-    (16, 9, Some(3), Some(3)),
-    (2, 3, Some(3), Some(3)),
-    (257, 1, None, Some(2)),
-    (1, 1, None, Some(2)),
-    (6, 1, None, Some(2)),
+// The width and the picks of an opening, the number by which it is refused, if it is, and the same of the tree's. Widths 0, 1,025,
+// 256 and 1,024, nine picks, and three of two stations; then the three widths that only the tree refuses.
+static OPENINGS: [(usize, usize, Result<(), usize>, Result<(), usize>); 9] = [
+    (0, 1, Err(1), Err(1)),
+    (1025, 1, Err(1), Err(1)),
+    (256, 1, Ok(()), Ok(())),
+    (1024, 1, Ok(()), Ok(())),
+    (16, 9, Err(3), Err(3)),
+    (2, 3, Err(3), Err(3)),
+    (257, 1, Ok(()), Err(2)),
+    (1, 1, Ok(()), Err(2)),
+    (6, 1, Ok(()), Err(2)),
 ];
 
 // 9 openings, without a head and at head 0, 6 engines.
@@ -40,13 +40,9 @@ fn opening(i: usize) -> Option<bool> {
     if !engine.takes(head) {
         return None;
     }
-    let (width, picks, refusal, by_tree) = OPENINGS[i % 9];
-    let number = if engine == Engine::Tree {
-        by_tree
-    } else {
-        refusal
-    };
-    Some(compare::opening(engine, compare::state(width, picks, head), number))
+    let (width, picks, others, tree) = OPENINGS[i % 9];
+    let expected = if engine == engine::TREE { tree } else { others };
+    Some(compare::opening(engine, compare::state(width, picks, head), expected))
 }
 
 // A cycle of the tree with 4 stations, one pick and a head: who asks, the node buffer, and the next head.
@@ -92,7 +88,7 @@ pub(crate) static TURNS: [Turn; 4] = [
 // Whether the tree turns as the model does, and the model as is known.
 pub(crate) fn node_buffer(turn: &Turn) -> bool {
     let s = compare::state(4, 1, Some(turn.head));
-    let cycle = model::run(Engine::Tree, s, &turn.requests, 0);
+    let cycle = model::run(engine::TREE, s, &turn.requests, 0);
     let noded = model::same_nodes(s, &turn.requests, &turn.nodes);
     cycle.same && noded && cycle.state.head == Some(turn.next)
 }

@@ -20,8 +20,7 @@ mod tables;
 mod texts;
 mod walk;
 
-use conversions::Form;
-use engine::Engine;
+use engine::{Engine, WIDEST};
 use program::Program;
 use refusals::Call;
 use runs::Run;
@@ -71,15 +70,15 @@ fn documents(rt: &impl Print) -> io::Result<()> {
 // The engines on every small input.
 fn small_inputs(rt: &impl Print) -> io::Result<()> {
     for (name, engine) in [
-        ("scan, every input for widths 1 to 8", Engine::Scan),
-        ("tree, every input for widths 2, 4 and 8", Engine::Tree),
+        ("scan, every input for widths 1 to 8", engine::SCAN),
+        ("tree, every input for widths 2, 4 and 8", engine::TREE),
         (
             "thermometer, every input for widths 1 to 8",
-            Engine::Thermometer,
+            engine::THERMOMETER,
         ),
         (
             "Kogge-Stone, every input for widths 1 to 8",
-            Engine::KoggeStone,
+            engine::KOGGE_STONE,
         ),
         ("bus, every input for widths 1 to 8", Engine::Bus),
     ] {
@@ -91,10 +90,10 @@ fn small_inputs(rt: &impl Print) -> io::Result<()> {
 // The engines on runs.
 fn long_runs(rt: &impl Print) -> io::Result<()> {
     for (name, engine) in [
-        ("scan, runs on widths 1 to 1024", Engine::Scan),
-        ("tree, runs on widths 2 to 1024", Engine::Tree),
-        ("thermometer, runs on widths 1 to 1024", Engine::Thermometer),
-        ("Kogge-Stone, runs on widths 1 to 1024", Engine::KoggeStone),
+        ("scan, runs on widths 1 to 1024", engine::SCAN),
+        ("tree, runs on widths 2 to 1024", engine::TREE),
+        ("thermometer, runs on widths 1 to 1024", engine::THERMOMETER),
+        ("Kogge-Stone, runs on widths 1 to 1024", engine::KOGGE_STONE),
         ("bus, runs on widths 1 to 1024", Engine::Bus),
         ("packed scan, runs on widths 1 to 1024", Engine::Packed),
     ] {
@@ -171,17 +170,19 @@ fn refused(rt: &impl Print) -> io::Result<()> {
 
 // The image and the snapshot of a state.
 fn converted(rt: &impl Print) -> io::Result<()> {
-    for (name, form) in [
-        ("one-hot image, each way", Form::OneHot),
-        ("snapshot, each way", Form::Snapshot),
-        ("short snapshot, read", Form::ShortSnapshot),
-    ] {
-        numbers(rt, name, conversions::CASES, |i| conversions::case(form, i))?;
-    }
-    numbers(
+    numbers(rt, "one-hot image, each way", conversions::CASES, |i| {
+        conversions::case(i, WIDEST, conversions::images)
+    })?;
+    numbers(rt, "snapshot, each way", conversions::CASES, |i| {
+        conversions::case(i, WIDEST, conversions::snapshots)
+    })?;
+    numbers(rt, "short snapshot, read", conversions::CASES, |i| {
+        conversions::case(i, conversions::SHORT_WIDEST, conversions::short_snapshots)
+    })?;
+    items(
         rt,
         "snapshots of four and six bytes, written down",
-        conversions::KNOWN,
+        &conversions::SAVED,
         conversions::known,
     )
 }

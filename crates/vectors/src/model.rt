@@ -1,7 +1,7 @@
 // A served cycle against the model.
-use crate::engine::{Engine, NODES, WIDEST};
+use crate::engine::{self, Engine, NODES, WIDEST};
 use crate::{compare, packed};
-use arbiter::{Answer, State};
+use arbiter::State;
 
 // What a cycle came to: whether it is as the model says, and the state it left.
 #[derive(Clone, Copy)]
@@ -23,21 +23,16 @@ pub(crate) fn run(engine: Engine, s: State, requests: &[u8], acknowledge: u8) ->
         &mut nodes[..2 * width],
         acknowledge,
     );
-    let same = answered(engine, s, requests, acknowledge, a)
+    let count = reference::count(s.width, s.picks, requests);
+    let next = next_head(engine, s, requests, acknowledge);
+    let same = compare::serves(a, count, compare::state(s.width, s.picks, Some(next)))
         && same_grants(s, requests, &grants)
-        && (engine != Engine::Tree || same_nodes(s, requests, &nodes))
+        && (engine != engine::TREE || same_nodes(s, requests, &nodes))
         && (engine != Engine::Packed || packed::as_scan(s, requests));
     Cycle {
         same,
         state: a.state,
     }
-}
-
-// Whether a cycle answers as the model does.
-fn answered(engine: Engine, s: State, requests: &[u8], acknowledge: u8, a: Answer) -> bool {
-    let count = reference::count(s.width, s.picks, requests);
-    let next = next_head(engine, s, requests, acknowledge);
-    compare::serves(a, count, compare::state(s.width, s.picks, Some(next)))
 }
 
 // Where the model leaves the head or the token.

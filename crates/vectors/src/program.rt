@@ -7,7 +7,7 @@ use transcript::{LIMIT, READ_SIZE};
 // The heading.
 const HEADING: &[u8] = b"line granted next\n";
 
-// The array that an input is read into, and the one that its text is written to.
+// The array in which an input is made, and the one that its text is written to.
 #[derive(Drop)]
 pub struct Program {
     input: [u8; READ_SIZE],
@@ -34,7 +34,7 @@ impl<'a> Place<'a> {
 }
 
 impl Program {
-    // Both arrays, with nothing read or written.
+    // Both arrays, with nothing made or written.
     pub(crate) fn new() -> Program {
         Program {
             input: [b'0'; READ_SIZE],
@@ -44,28 +44,28 @@ impl Program {
 
     // Whether an input gives this text.
     pub(crate) fn gives(&mut self, input: &str, text: &str) -> bool {
-        let length = self.read(input.as_bytes());
-        self.prints(length, text.as_bytes())
+        prints(&mut self.output, input.as_bytes(), text.as_bytes())
     }
 
     // Whether the input of a place gives its text, with the byte of a number: 256 numbers for each place of the list.
     pub(crate) fn gives_at(&mut self, list: &[Place<'_>], i: usize) -> Option<bool> {
         let place = list.get(i / 256)?;
         let byte = byte(i);
-        let length = self.read(place.input.as_bytes());
-        for at in self.input.iter_mut().take(length) {
+        let input = copy(&mut self.input, place.input.as_bytes());
+        for at in input.iter_mut() {
             if *at == b'@' {
                 *at = byte;
             }
         }
-        Some(self.prints(length, place.text(byte).as_bytes()))
+        Some(prints(&mut self.output, input, place.text(byte).as_bytes()))
     }
 
     // Whether an input with zeros after it, of which so many bytes are read, gives this text.
     pub(crate) fn gives_long(&mut self, input: &str, length: usize, text: &str) -> bool {
         self.input.fill(b'0');
-        self.read(input.as_bytes());
-        self.prints(length, text.as_bytes())
+        copy(&mut self.input, input.as_bytes());
+        let input = &self.input[..length.min(READ_SIZE)];
+        prints(&mut self.output, input, text.as_bytes())
     }
 
     // Whether the input in a file gives the text in another, which has the heading too. A file that is missing differs.
@@ -81,27 +81,26 @@ impl Program {
         let Ok(text) = fs::read(rt, text) else {
             return false;
         };
-        let length = self.read(input.as_slice());
         match text.as_slice().strip_prefix(HEADING) {
             None => false,
-            Some(text) => self.prints(length, text),
+            Some(text) => prints(&mut self.output, input.as_slice(), text),
         }
     }
+}
 
-    // Writes an input at the start of the array, and answers how long it is.
-    fn read(&mut self, input: &[u8]) -> usize {
-        let length = input.len().min(READ_SIZE);
-        self.input[..length].copy_from_slice(&input[..length]);
-        length
-    }
+// Copies an input to the start of an array, and answers it there.
+fn copy<'a>(array: &'a mut [u8; READ_SIZE], input: &[u8]) -> &'a mut [u8] {
+    let length = input.len().min(READ_SIZE);
+    let copied = &mut array[..length];
+    copied.copy_from_slice(&input[..length]);
+    copied
+}
 
-    // Whether so much of the array gives the heading and then this text.
-    fn prints(&mut self, length: usize, text: &[u8]) -> bool {
-        let input = &self.input[..length.min(READ_SIZE)];
-        let written = transcript::run(input, &mut self.output);
-        let Some(output) = self.output.get(..written) else {
-            return false;
-        };
-        output.strip_prefix(HEADING) == Some(text)
-    }
+// Whether an input gives the heading and then this text.
+fn prints(output: &mut [u8; LIMIT], input: &[u8], text: &[u8]) -> bool {
+    let written = transcript::run(input, output);
+    let Some(output) = output.get(..written) else {
+        return false;
+    };
+    output.strip_prefix(HEADING) == Some(text)
 }

@@ -10,7 +10,7 @@ use packed_scan::PackedScan;
 use snapshot::Snapshot;
 use thermometer::adder;
 
-// The calls that refuse.
+// The calls that refuse. They are an enum and no closures: what a call asks and how it is made depend on the engine too.
 #[derive(Clone, Copy, Debug, PartialEq, Eq)]
 pub enum Call {
     Open,
@@ -66,7 +66,7 @@ impl Fault {
     }
 }
 
-// A set of faults: the bit of a fault's number is 1.
+// A set of faults: the bit of a fault's number is 1. It is a number, since the number of a case counts through all sets.
 #[derive(Clone, Copy, Debug, PartialEq, Eq)]
 struct Faults(usize);
 
@@ -94,7 +94,8 @@ impl Faults {
     }
 }
 
-// An input with these faults, in one of three variants.
+// An input with these faults, in one of three variants. The state, which is made from it, and the number of bytes, which each call
+// has of its own, go beside it.
 #[derive(Clone, Copy)]
 struct Faulty {
     faults: Faults,
@@ -133,6 +134,14 @@ impl Faulty {
         FAULTS.iter().copied().find(|fault| self.has(*fault))
     }
 
+    // What a call should answer: the number of the first fault, if there is one.
+    fn expected(self) -> Result<(), usize> {
+        match self.first() {
+            None => Ok(()),
+            Some(fault) => Err(fault.number()),
+        }
+    }
+
     // The place that is refused in `n` bytes: the first byte that is not a bit, the second 1, or the last byte of packed wires.
     fn place(self, n: usize) -> usize {
         match self.first() {
@@ -165,7 +174,7 @@ pub(crate) fn case(call: Call, i: usize) -> Option<bool> {
     if faults == Faults(0) || !faults.is_within(asked(call, engine)) {
         return None;
     }
-    if engine != Engine::Scan && !matches!(call, Call::Open | Call::OpenAt | Call::Cycle) {
+    if engine != engine::SCAN && !matches!(call, Call::Open | Call::OpenAt | Call::Cycle) {
         return None;
     }
     let input = Faulty {
@@ -199,8 +208,13 @@ fn asked(call: Call, engine: Engine) -> Faults {
 // The questions that only the tree asks, and only the bus.
 fn engine_asks(call: Call, engine: Engine) -> &'static [Fault] {
     match (call, engine) {
-        (Call::Open | Call::OpenAt, Engine::Tree) => &[Fault::TreeWidth],
-        (Call::Cycle, Engine::Tree) => &[Fault::TreeWidth, Fault::Nodes],
+        (Call::Open | Call::OpenAt, Engine::RoundRobin(engines::Engine::Tree)) => &[
+            Fault::TreeWidth,
+        ],
+        (Call::Cycle, Engine::RoundRobin(engines::Engine::Tree)) => &[
+            Fault::TreeWidth,
+            Fault::Nodes,
+        ],
         (Call::Open, Engine::Bus) => &[Fault::Head],
         (Call::Cycle, Engine::Bus) => &[Fault::Acknowledge],
         _ => &[],
@@ -212,7 +226,7 @@ fn refuses(call: Call, engine: Engine, f: Faulty, s: State) -> bool {
     let n = stations(s.width);
     match call {
         Call::Open => open(engine, f, s),
-        Call::OpenAt => compare::opening(engine, s, f.first().map(Fault::number)),
+        Call::OpenAt => compare::opening(engine, s, f.expected()),
         Call::Cycle if engine == Engine::Packed => packed_cycle(f, s, packed::size(n)),
         Call::Cycle => cycle(engine, f, s, n),
         Call::ReadOneHot => read_image(f, s, n),
@@ -242,7 +256,7 @@ fn open(engine: Engine, mut f: Faulty, s: State) -> bool {
         f.faults = f.faults.with(&[Fault::Head]);
     }
     let headless = compare::state(s.width, s.picks, None);
-    compare::opening(engine, headless, f.first().map(Fault::number))
+    compare::opening(engine, headless, f.expected())
 }
 
 // A cycle of an engine with `n` stations.
@@ -307,7 +321,8 @@ fn read_snapshot(f: Faulty) -> bool {
     unread(f, &snapshot, 6)
 }
 
-// Four bytes, with a head past the end twice, and then one that is marked as none.
+// Four bytes, with a head past the end twice, and then one that is marked as none. They stand apart from the six, in which the
+// width and the head have two bytes each and other faults.
 fn read_short(f: Faulty) -> bool {
     let snapshot = [
         3,
@@ -339,8 +354,7 @@ fn add(f: Faulty) -> bool {
     let picks = f.value(Fault::Picks, 3, [0, 9, 1000]);
     let left = f.value(Fault::Code, 1, [2, 1, 15]);
     let right = f.value(Fault::Code, 1, [1, 2, 1]);
-    let sum = adder::add(picks, left, right);
-    compare::sum(sum, f.first().map(Fault::number), 0)
+    compare::sum(adder::add(picks, left, right), f.expected().map(|()| 0))
 }
 
 // How many bytes go with a width: as many, or 4 where it is too large or none.

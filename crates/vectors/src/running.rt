@@ -3,8 +3,7 @@
 // thermometer arbiter's, which must grant those at whose sum the code changes.
 ghost use Rattle.std.specs.Prelude.{◌≤◌};
 
-use crate::engine::Engine;
-use crate::{compare, small};
+use crate::{compare, engine, small};
 use arbiter::State;
 use thermometer::adder;
 
@@ -92,7 +91,7 @@ fn station(s: State, position: usize) -> usize
 fn held(s: State, requests: &[u8; 8], codes: &[u8; 9]) -> bool {
     let width = s.width.min(8);
     let mut grants = [7u8; 8];
-    let a = Engine::Thermometer.cycle(s, &requests[..width], &mut grants[..width], &mut [], 0);
+    let a = engine::THERMOMETER.cycle(s, &requests[..width], &mut grants[..width], &mut [], 0);
     let count = adder::count(codes[width]);
     count == reference::count(s.width, s.picks, requests)
         && a.outcome.ok() == Some(count)

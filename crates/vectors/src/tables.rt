@@ -5,7 +5,8 @@ ghost use Rattle.std.specs.Prelude.{◌<◌};
 use crate::{compare, small};
 use tree::Tree;
 
-// 000's table 2, 002's table II, 002's equation 13. Table II speaks of inner nodes alone, and always with a head.
+// 000's table 2, 002's table II, 002's equation 13. Table II speaks of inner nodes alone, and always with a head. They are an enum
+// and no closures: a table says of which nodes it speaks, which way these go, and which of its places are met.
 #[derive(Clone, Copy, Debug, PartialEq, Eq)]
 pub enum Table {
     Table2,

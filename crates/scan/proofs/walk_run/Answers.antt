@@ -12,12 +12,12 @@ use Rattle.scan.proofs.walk_run.Goals as goal
 pub slice_bounds-run-end : goal.slice_bounds-run-end
 slice_bounds-run-end c = simp length-take (omega arith)
 
-pub loop-walk-init : goal.loop-walk-init
-loop-walk-init c = (omega arith, omega arith, omega arith, omega arith, Walk.begin _ _ _ _ _ _ (omega arith))
+pub loop-count-init : goal.loop-count-init
+loop-count-init c = (omega arith, omega arith, omega arith, omega arith, Walk.begin _ _ _ _ _ _ (omega arith))
 
 pub returns-in_default : goal.returns-in_default
 returns-in_default c =
-    let l = c.loop-walk in
+    let l = c.loop-count in
     let a = c.args in
     let none = Searches.nobody a.requests.now l.i a.to (omega arith) (sym c.first_one.ensures ∙ c.in_default.is) in
     Walk.quiet _ _ _ _ _ _ l.i l.invariant.0 _ _ _ l.invariant.4 a.to l.invariant.1 none
@@ -29,19 +29,19 @@ station {from} {to} {w} {requests} room e f = Searches.found requests from to ro
 
 pub bounds-grants-station : goal.bounds-grants-station
 bounds-grants-station c =
-    let l = c.loop-walk in
+    let l = c.loop-count in
     let a = c.args in
     let w = station {from = l.i} {to = a.to} {requests = a.requests.now} (omega (arith, c.requires)) c.first_one.ensures c.in-Some.is in omega (arith, w.high)
 
 pub overflow_add-i : goal.overflow_add-i
 overflow_add-i c =
-    let l = c.loop-walk in
+    let l = c.loop-count in
     let a = c.args in
     let w = station {from = l.i} {to = a.to} {requests = a.requests.now} (omega (arith, c.requires)) c.first_one.ensures c.in-Some.is in omega (arith, w.high)
 
-pub loop-walk-preserved : goal.loop-walk-preserved
-loop-walk-preserved c =
-    let l = c.loop-walk in
+pub loop-count-preserved : goal.loop-count-preserved
+loop-count-preserved c =
+    let l = c.loop-count in
     let a = c.args in
     let w = station {from = l.i} {to = a.to} {requests = a.requests.now} (omega (arith, c.requires)) c.first_one.ensures c.in-Some.is in
     let r = Walk.quiet _ _ _ _ _ _ l.i l.invariant.0 _ _ _ l.invariant.4 _ w.low w.earlier in (
@@ -49,12 +49,12 @@ loop-walk-preserved c =
       omega (arith, w.high),
       omega arith,
       simp length-set (omega arith),
-      Walk.grant _ _ _ _ _ _ _ (omega (arith, w.low)) _ _ _ r w.asks (omega arith) (omega (arith, w.high)),
+      rw (← l.invariant.2) (Walk.grant _ _ _ _ _ _ _ (omega (arith, w.low)) _ _ _ r w.asks (omega arith) (omega (arith, w.high))),
     )
 
 pub returns : goal.returns
 returns c =
-    let l = c.loop-walk in
+    let l = c.loop-count in
     let a = c.args in
     let used-up : l.walk.count ≡ a.picks = omega arith in
     Walk.full _ _ _ _ _ _ l.i l.invariant.0 _ _ _ l.invariant.4 a.to l.invariant.1 used-up

@@ -5,18 +5,20 @@ use Rattle.arbiter.specs.Decisions.Laws.{quiet_decides, quiet_grants}
 use Rattle.arbiter.specs.Places.{highest}
 use Rattle.arbiter.specs.Questions.Laws.{read_passed, ready}
 use mathlib.Core.Path.{refl}
-use mir.Syntax.{Callee, Args, fn, fn₀, method, given}
+use mir.Syntax.{Args, fn, fn₀, method, given}
 use Rattle.arbiter.specs.Trace.{Trace, trace, end, computes, calls, leaves, either}
 use Rattle.arbiter.proofs.engine.arbitrate.Code as code
 use Rattle.arbiter.proofs.engine.arbitrate.Goals as goal
 
 -- where a `?` leaves
-abbrev asked : Callee → Callee → Trace → Trace
-asked branch back t = calls branch (either (either end (either (calls back (leaves end)) end end) end) end t)
+abbrev asked : Args → Args → Trace → Trace
+asked verdict refusal t =
+    calls (fn "core::result::ResultTry::branch" verdict)
+    (either (either end (either (calls (fn "core::result::ResultFromResidualErrResidual::from_residual" refusal) (leaves end)) end end) end) end t)
 
 -- Read off the code, for every arbiter that grants by the rule: a cycle that is not refused and in which somebody asks grants once,
 -- and nothing is repeated
-one_count : (b : Callee) × (r : Callee) × (b₂ : Callee) × (r₂ : Callee) × (bytes : Args) × (arbiter : Args)
+one_count : (b : Args) × (r : Args) × (b₂ : Args) × (r₂ : Args) × (bytes : Args) × (arbiter : Args)
     × (trace (code.function).body end
     ≡ calls (fn₀ "arbiter::question::state")
     (asked b r

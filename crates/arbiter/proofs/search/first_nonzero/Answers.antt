@@ -10,7 +10,7 @@ use Rattle.arbiter.specs.Words.Laws.{quiet, loud}
 use Rattle.arbiter.proofs.search.first_nonzero.Goals as goal
 
 pub returns-then-bytes-lt8 : goal.returns-then-bytes-lt8
-returns-then-bytes-lt8 c = c.first_of_few.ensures
+returns-then-bytes-lt8 c = c.first_above.ensures
 
 pub loop-i-init : goal.loop-i-init
 loop-i-init c = (omega arith, free_none)
@@ -48,4 +48,4 @@ loop-i-preserved c =
 pub returns : goal.returns
 returns c =
     let l = c.loop-i in
-    c.first_of_few-2.ensures ∙ ap first (places_on l.invariant.1 l.invariant.0)
+    c.first_above-2.ensures ∙ ap first (places_on l.invariant.1 l.invariant.0)
