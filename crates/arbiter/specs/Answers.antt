@@ -69,6 +69,11 @@ abbrev pub if_passed : {A : Type 0} → Verdict → A → (Refusal → A) → A
 if_passed (Ok _) a b = a
 if_passed (Err refusal) a b = b refusal
 
+-- a call that makes a state, or refuses to
+abbrev pub opens : Result State Refusal → Answer
+opens (Ok s) = served 0 s
+opens (Err refusal) = refused refusal nothing
+
 -- a call that makes the state of N, m and a head
 abbrev pub opened : Verdict → ℕ → ℕ → Head → Answer
 opened v n m h = if_passed v (served 0 (made n m h)) (λ refusal. refused refusal nothing)

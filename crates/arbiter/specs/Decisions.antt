@@ -1,8 +1,7 @@
 -- What a cycle by the round-robin rule decides, apart from any state: 01, "The turn rule".
 -- Assumes nothing.
-use Rattle.std.specs.Prelude.{ℕ, ◌+◌, Bool, cond, List, [], eqb, ltb, length, get_or}
+use Rattle.std.specs.Prelude.{ℕ, ◌+◌, Bool, cond, List, [], eqb, ltb, length, get_or, Option, None, Some}
 use Rattle.rules.specs.Head.{Head}
-use Rattle.std.specs.Prelude.{Some}
 use Rattle.rules.specs.RoundRobin.{granted, after, next}
 use Rattle.arbiter.specs.declared.Decision.{Decision}
 pub mod Laws
@@ -28,6 +27,7 @@ headed h = record { count = 0; next = h }
 abbrev pub past : ℕ → ℕ → ℕ
 past n w = cond (ltb (w + 1) n) (w + 1) 0
 
--- the same as deciding, told by how many are granted and whom the cycle grants last
-abbrev pub counted : ℕ → Head → ℕ → ℕ → Decision
-counted n h c w = cond (eqb c 0) (deciding n h []) (record { count = c; next = Some (past n w) })
+-- the same as deciding, told by how many are granted and whom the cycle grants last, if anyone
+abbrev pub counted : ℕ → Head → ℕ → Option ℕ → Decision
+counted n h c None = deciding n h []
+counted n h c (Some w) = record { count = c; next = Some (past n w) }

@@ -8,7 +8,9 @@ ghost use Rattle.arbiter.specs.Cycle as Cycle;
 ghost use Rattle.arbiter.specs.Decisions.{requested, decision};
 ghost use Rattle.arbiter.specs.Questions as Questions;
 ghost use Rattle.arbiter.specs.Questions.{◌then◌};
-ghost use Rattle.arbiter.specs.Questions.Laws.{Ready};
+ghost use Rattle.rules.specs.RoundRobin.{start};
+ghost use Rattle.arbiter.specs.Places.{Bits};
+ghost use Rattle.std.specs.Prelude.{◌≤◌, ◌<◌};
 
 use crate::question::Verdict;
 use crate::refusal::Refusal;
@@ -49,18 +51,33 @@ pub trait Arbiter: Copy {
 fn opening<A: Arbiter>(width: usize, picks: usize, head: Head) -> Answer
     ensures { result ≡ Answers.opened (A.questions width picks head) width picks head }
 {
-    Answer::opened(A::ask(width, picks, head), width, picks, head)
+    Answer::opened(A::ask(width, picks, head).map(|()| State { width, picks, head }))
+}
+
+// A cycle that no question refuses: picks and head of its state, a request for each station, and the grant buffer, which may hold
+// anything. What the questions have answered is true of each such value, so whatever takes one has nothing to ask.
+#[derive(Drop)]
+pub struct ServedCycle<'a> {
+    pub picks: usize,
+    pub head: Head,
+    pub requests: &'a [u8],
+    pub grants: &'a mut [u8],
+    ghost width_bound: { length requests.now ≤ Questions.max_width },
+    ghost picked: { 1 ≤ picks },
+    ghost picks_bound: { picks ≤ 8 },
+    ghost picks_le_width: { picks ≤ length requests.now },
+    ghost head_bound: { start head < length requests.now },
+    ghost grants_len: { length grants.now ≡ length requests.now },
+    ghost bits: { Bits requests.now },
 }
 
 // An arbiter that grants by the round-robin rule, a byte for each station.
 pub trait RoundRobin: Arbiter {
-    // The grants of a cycle that no question refuses. The grant buffer may hold anything before. An arbiter gives this, and `cycle`
-    // alone calls it, once its questions have passed: so it asks of its caller what they have answered. It is public since arbiters
-    // lie in other crates.
-    fn grant(width: usize, picks: usize, head: Head, requests: &[u8], grants: &mut [u8]) -> Decision
-        requires { Ready width picks head requests.now (length grants.old) }
-        ensures value { result ≡ decision width picks head (requested requests.now) }
-        ensures grants_after { grants.new ≡ Rule.grants width picks head (requested requests.now) };
+    // Writes the grants of a cycle, and says what it decides.
+    fn grant(cycle: &mut ServedCycle<'_>) -> Decision
+        ensures value { result ≡ decision (length cycle.old.requests.now) cycle.old.picks cycle.old.head (requested cycle.old.requests.now) }
+        ensures same_reference { cycle.new.grants.ghost_name ≡ cycle.old.grants.ghost_name }
+        ensures grants_after { cycle.new.grants.now ≡ Rule.grants (length cycle.old.requests.now) cycle.old.picks cycle.old.head (requested cycle.old.requests.now) };
 
     // One cycle: writes the grants of these requests, and answers with their count and the next state. Asks 1, 3, 4, 5, 6
     // and 8. With 4 stations, 2 picks, head 3 and all asking it grants 3 and 0, and the next head is 1.
@@ -91,5 +108,11 @@ fn arbitrate<E: RoundRobin>(
         grants.fill(0);
         return Ok(idle(width, head));
     }
-    Ok(E::grant(width, picks, head, requests, grants))
+    let mut cycle = ServedCycle {
+        picks,
+        head,
+        requests,
+        grants,
+    };
+    Ok(E::grant(&mut cycle))
 }

@@ -21,8 +21,8 @@ pub const MAX_WIDTH: usize = 1024;
 // The most picks in one cycle.
 pub const MAX_PICKS: usize = 8;
 
-// 01's state: the number of stations, the most grants in one cycle, and the head.
-#[derive(Clone, Copy, Debug, PartialEq, Eq)]
+// 01's state: the number of stations, the most grants in one cycle, and the head. The default has no station, no pick and no head.
+#[derive(Clone, Copy, Debug, Default, PartialEq, Eq)]
 pub struct State {
     pub width: usize,
     pub picks: usize,
@@ -53,9 +53,8 @@ impl State {
             Ok(decision) => Answer {
                 outcome: Ok(decision.count),
                 state: State {
-                    width: self.width,
-                    picks: self.picks,
                     head: decision.next,
+                    ..self
                 },
             },
             Err(refusal) => Answer {
@@ -67,29 +66,18 @@ impl State {
 }
 
 impl Answer {
-    // The answer of a call that makes a state of these: served it returns the state, refused it returns width 0, no picks and no
-    // head.
-    pub fn opened(verdict: Verdict, width: usize, picks: usize, head: Head) -> Answer
-        ensures { result ≡ Answers.opened verdict width picks head }
+    // The answer of a call that makes a state: served it returns the state, refused it returns width 0, no picks and no head.
+    pub fn opened(made: Result<State, Refusal>) -> Answer
+        ensures { result ≡ Answers.opens made }
     {
-        match verdict {
-            Ok(()) => Answer {
-                outcome: Ok(0),
-                state: State { width, picks, head },
-            },
-            Err(refusal) => Answer {
-                outcome: Err(refusal),
-                state: State {
-                    width: 0,
-                    picks: 0,
-                    head: None,
-                },
-            },
+        Answer {
+            outcome: made.map(|_| 0),
+            state: made.unwrap_or_default(),
         }
     }
 }
 
-// What a call decides that is no cycle: it grants no one, and this is the next head.
+// What a call decides that grants no one, with this for the next head.
 pub fn headed(head: Head) -> Decision
     ensures { result ≡ Decisions.headed head }
 {
@@ -107,15 +95,15 @@ pub fn idle(width: usize, head: Head) -> Decision
     headed(Some(head.unwrap_or(width.saturating_sub(1))))
 }
 
-// What a cycle decides that grants `count` stations, `last` the last of them: the next head is one past it. With a count of 0 it
-// grants no one.
-pub fn decide(width: usize, head: Head, count: usize, last: usize) -> Decision
+// What a cycle decides that grants `count` stations, `last` the last of them: the next head is one past it. With no last it grants no
+// one.
+pub fn decide(width: usize, head: Head, count: usize, last: Option<usize>) -> Decision
     ensures { result ≡ Decisions.counted width head count last }
 {
-    if count == 0 {
+    let Some(station) = last else {
         return idle(width, head);
-    }
-    let next = past(width, last);
+    };
+    let next = past(width, station);
     Decision {
         count,
         next: Some(next),

@@ -49,9 +49,8 @@ impl Refusal {
         ensures { result ≡ Refusals.place self }
     {
         match self {
-            Refusal::NotABit(place) => place,
-            Refusal::SecondOne(place) => place,
-            Refusal::UnusedBit(place) => place,
+            Refusal::NotABit(place) | Refusal::SecondOne(place) | Refusal::UnusedBit(place) =>
+                place,
             _ => 0,
         }
     }

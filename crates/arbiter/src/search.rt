@@ -5,17 +5,12 @@ ghost use Rattle.std.specs.Int.Count.{count_trailing_zeros};
 ghost use Rattle.arbiter.specs.Places as Places;
 ghost use Rattle.arbiter.specs.Words as Words;
 
-// The highest byte, or 0 where there is none. It reads every byte and never returns early, so that many are compared at once.
+// The highest byte, or 0 where there is none. It reads every byte, so that many are compared at once. A fold from 0: the library's `max`
+// begins with the first byte, and what that leaves over at the end made a cycle of the scan a fifth longer and more.
 pub fn highest(bytes: &[u8]) -> u8
     ensures { result ≡ Places.highest bytes.now }
 {
-    let mut high: u8 = 0;
-    for byte in bytes {
-        if high < *byte {
-            high = *byte;
-        }
-    }
-    high
+    bytes.iter().fold(0, |high, byte| high.max(*byte))
 }
 
 // The place of the first 1 from `from` on, or none. Each search goes on behind the place that the last one found, so no range counts
@@ -34,7 +29,8 @@ pub fn first_one(from: usize, bytes: &[u8]) -> Option<usize>
 }
 
 // The place of the first byte from `from` on that is not 0, or none. It looks at eight bytes at a time, and at the last few one by
-// one: the index goes by eights, and what is left begins where it ends.
+// one: the index goes by eights, and what is left begins where it ends. With `as_chunks` and `position` in place of the index a cycle of
+// the scan, which searches once for each grant, took a fifth to a third longer.
 pub fn first_nonzero(from: usize, bytes: &[u8]) -> Option<usize>
     ensures { result ≡ Places.first (Places.nonzero from bytes.now) }
 {
@@ -57,15 +53,11 @@ pub fn first_nonzero(from: usize, bytes: &[u8]) -> Option<usize>
 pub(crate) fn first_above(limit: u8, from: usize, bytes: &[u8]) -> Option<usize>
     ensures { result ≡ Places.first (Places.places (ltb limit) from bytes.now) }
 {
-    for i in from..bytes.len() {
-        if limit < bytes[i] {
-            return Some(i);
-        }
-    }
-    None
+    (from..bytes.len()).find(|i| limit < bytes[*i])
 }
 
-// The eight bytes from `i` on as one number, the first of them lowest. The compiler makes one load of it.
+// The eight bytes from `i` on as one number, the first of them lowest. The compiler makes one load of it. They are there, so the Option
+// that the library's `first_chunk` gives would have a branch that is never taken.
 fn eight(bytes: &[u8], i: usize) -> u64
     requires { i + 8 ≤ length bytes.now }
     ensures { result ≡ Words.number (take 8 (drop i bytes.now)) }

@@ -1,17 +1,15 @@
 -- What holds of every call: each asks its questions, and answers by what they say.
 -- Assumes nothing.
-use Prim.Native.Nat.{ℕ, ◌*◌, ◌<◌}
+use Prim.Native.Nat.{ℕ, ◌<◌}
 use mathlib.Core.Path.{◌≡◌, refl, sym, ap, ◌∙◌}
 use Rattle.std.specs.Prelude.{Result, Ok, Err}
 use mathlib.Core.Bool.{Bool, true, false, ◌&&◌}
-use mathlib.Core.List.{List, [], ◌∷◌}
+use mathlib.Core.List.{List, []}
 use native.Mathlib.Omega.{arith}
 use lib.Dec.{eqb, leb}
 use lib.ListN.{length, replicate, length-replicate}
-use borrow.Author.Tests.{eqb-true, eqb-false}
 use Rattle.std.specs.Prelude.{Some}
 use Rattle.rules.specs.Lists.{count}
-use Rattle.rules.specs.Lists.Laws as Lists
 use Rattle.rules.specs.Packing.{pack, unpack}
 use Rattle.rules.specs.RoundRobin as Rule
 use Rattle.rules.proofs.RoundRobin.Laws as RuleLaws
@@ -22,23 +20,20 @@ use Rattle.arbiter.specs.declared.Answer.{Answer}
 use Rattle.arbiter.specs.declared.State.{State}
 use Rattle.arbiter.specs.declared.refusal.Refusal.{Refusal}
 use Rattle.arbiter.specs.declared.refusal.Refusal.TheVariants.{Width, TreeWidth, Picks, HeadRange, ReadLength, WriteLength, NodesLength, NotABit, Acknowledge, SecondOne, FirstLine, InputLength, Code, UnusedBit}
-use Rattle.arbiter.specs.Questions as Questions
-use Rattle.arbiter.specs.Questions.{Verdict, passed, refuse_unless, ◌then◌}
+use Rattle.arbiter.specs.Questions.{Verdict, refuse_unless, ◌then◌}
 use Rattle.arbiter.specs.Answers as Answers
 use Rattle.arbiter.specs.Answers.{Outcome, moved, served, refused, if_passed, number, place, number_of, place_of}
 use Rattle.arbiter.specs.Refusals as Refusals
-use Rattle.arbiter.specs.Answers.Laws.{refusal_number, passed_is, writes_is}
+use Rattle.arbiter.specs.Answers.Laws.{refusal_number, writes_refused}
 use Rattle.arbiter.specs.Cycle as RoundRobin
 use Rattle.packed_scan.specs.Calls as PackedScan
 use Rattle.packed_scan.proofs.AsScan.{served_unpacked}
-use Rattle.snapshot.specs.Calls as Snapshot
 use Rattle.thermometer.specs.Adder as Adder
-use Rattle.tree.specs.Calls as Tree
 use Rattle.token_bus.specs.Calls as Bus
 use Rattle.token_bus.specs.Calls.Laws as BusLaws
 use Rattle.engines.specs.declared.Engine.{Engine}
-use Rattle.engines.specs.declared.Engine.TheVariants.{Scan, Tree, Thermometer, KoggeStone}
-use Rattle.engines.specs.Calls.Laws.{Served, engine_served}
+use Rattle.engines.specs.declared.Engine.TheVariants.{Scan}
+use Rattle.engines.specs.Calls.Laws.{Served, engine_served, engine_refused}
 use Rattle.calls.specs.Answers.{Call, Made, engine_cycle, bus_cycle, packed_cycle, engine_opening, bus_opening, packed_opening, cycle, image_read, image_write, snapshot_read, snapshot_write, ran, unwriting, writing, made, HeadAfter, GrantsCounted, RefusedAsGiven, Placed, PlaceZero, AdderAnswers}
 
 -- how many bytes are 1
@@ -50,14 +45,14 @@ data Asked (r : Made) : Type 0 where
   asked_served : (next : State) → r.answer ≡ served (ones r.grants) next → Asked r
   asked_refused : (refusal : Refusal) → r.answer ≡ refused refusal r.given → r.left ≡ r.lent → Asked r
 
--- a call that leaves one thing where its questions pass and another where one refuses, and `see` what is to be seen of it
-leaves : {A : Type 0} (v : Verdict) (a : A) (b : Refusal → A) (see : A → Made) (next : State)
-    → (v ≡ passed → (see (if_passed v a b)).answer ≡ served (ones (see (if_passed v a b)).grants) next)
-    → ((e : Refusal) → (see (b e)).answer ≡ refused e (see (b e)).given)
-    → ((e : Refusal) → (see (b e)).left ≡ (see (b e)).lent)
-    → Asked (see (if_passed v a b))
-leaves (Ok _) a b see next passes refuses keeps = asked_served next (passes refl)
-leaves (Err e) a b see next passes refuses keeps = asked_refused e (refuses e) (keeps e)
+-- a call has come to one of the two, where a served one counts its grants and a refused one leaves state and buffers as they were
+come_to : (r : Made) (next : State) → (number r.answer ≡ 0 → r.answer ≡ served (ones r.grants) next)
+    → ((number r.answer ≡ 0 → ⊥) → (r.answer.state ≡ r.given) × (r.left ≡ r.lent)) → Asked r
+come_to r next passes keeps = of_outcome r.answer.outcome refl
+  where
+    of_outcome : (o : Result ℕ Refusal) → r.answer.outcome ≡ o → Asked r
+    of_outcome (Ok k) is = asked_served next (passes (ap number_of is))
+    of_outcome (Err e) is = let kept = keeps (λ z. refusal_number e (sym (ap number_of is) ∙ z)) in asked_refused e (rw (← is, ← kept.0)) kept.1
 
 -- one that writes no buffer
 asked_unwriting : (v : Verdict) (t s : State) → Asked (unwriting (if_passed v (served 0 t) (λ e. refused e s)) s)
@@ -83,75 +78,29 @@ counted : (s : State) (requests : List ℕ) (a : Answer) (bytes : List ℕ) → 
     → a ≡ served (ones bytes) (after s requests)
 counted s requests a bytes r =
     let is = RuleLaws.grants_count s.width s.picks s.head (RoundRobin.asking s requests) (omega (arith, r.allows.station)) in
-    r.answers ∙ ap (λ (k : ℕ). served k (after s requests)) (sym (ap ones r.granted ∙ is))
+    rw (r.granted, is) r.answers
 
 bus_counted : (s : State) (requests : List ℕ) (byte : ℕ) (o : Outcome) → BusLaws.Served s requests byte o
     → o.answer ≡ served (ones o.written) (bus_after s requests byte)
 bus_counted s requests byte o r =
     let is = BusRuleLaws.grants_count s.width (Bus.token s) (RoundRobin.asking s requests) r.token in
-    r.answers ∙ ap (λ (k : ℕ). served k (bus_after s requests byte)) (sym (ap ones r.grants ∙ is))
+    rw (r.grants, is) r.answers
 
--- the cycles
-module _ (s : State) (requests grants nodes : List ℕ) where
-  -- scan, thermometer arbiter and Kogge-Stone arbiter
-  asked_scan : Asked (ran (engine_cycle Scan s requests grants nodes))
-  asked_scan =
-      leaves (RoundRobin.questions s requests (length grants)) _ _
-      (λ (o : Outcome). record {
-        answer = o.answer;
-        given = s;
-        grants = o.written;
-        lent = grants ∷ nodes ∷ [];
-        left = o.written ∷ nodes ∷ [];
-      })
-      (after s requests)
-      (λ z.
-      counted s requests _ _
-      (engine_served Scan s requests grants nodes
-      (ap (λ (o : Outcome). number o.answer) (writes_is _ s (RoundRobin.answer s requests) (RoundRobin.granting s requests) grants z))))
-      (λ e. refl)
-      (λ e. refl)
+-- the cycles of the engines of the round-robin rule, and of the scan among them
+asked_engine : (e : Engine) (s : State) (requests grants nodes : List ℕ) → Asked (ran (engine_cycle e s requests grants nodes))
+asked_engine e s requests grants nodes =
+    come_to (ran (engine_cycle e s requests grants nodes)) (after s requests)
+    (λ z. counted s requests _ _ (engine_served e s requests grants nodes z))
+    (λ n. let kept = engine_refused e s requests grants nodes n in (kept.0, rw (kept.1, kept.2)))
 
-  asked_tree : Asked (ran (engine_cycle Tree s requests grants nodes))
-  unfolding Tree.cycle
-  asked_tree =
-      let v = Tree.questions s.width s.picks s.head requests (length grants) (length nodes) in
-      leaves v _ _
-      (λ (o : Tree.Outcome). record {
-        answer = o.answer;
-        given = s;
-        grants = o.grants;
-        lent = grants ∷ nodes ∷ [];
-        left = o.grants ∷ o.nodes ∷ [];
-      })
-      (after s requests)
-      (λ z.
-      counted s requests _ _
-      (engine_served Tree s requests grants nodes (ap (λ (o : Tree.Outcome). number o.answer) (passed_is v _ _ z))))
-      (λ e. refl)
-      (λ e. refl)
-
-  asked_engine : (e : Engine) → Asked (ran (engine_cycle e s requests grants nodes))
-  asked_engine Scan = asked_scan
-  asked_engine Tree = asked_tree
-  asked_engine Thermometer = asked_scan
-  asked_engine KoggeStone = asked_scan
-
--- a cycle that writes one buffer, of which `bytes` has a byte for each station
-abbrev seen : State → List ℕ → (List ℕ → List ℕ) → Outcome → Made
-seen s grants bytes o =
-    record { answer = o.answer; given = s; grants = bytes o.written; lent = grants ∷ []; left = o.written ∷ [] }
+asked_scan : (s : State) (requests grants nodes : List ℕ) → Asked (ran (engine_cycle Scan s requests grants nodes))
+asked_scan = asked_engine Scan
 
 asked_bus : (s : State) (requests grants : List ℕ) (byte : ℕ) → Asked (ran (bus_cycle s requests grants byte))
 asked_bus s requests grants byte =
-    let v = Bus.questions s.width s.picks s.head requests (length grants) byte in
-    leaves v _ _ (seen s grants (λ b. b)) (bus_after s requests byte)
-    (λ z.
-    bus_counted s requests byte (Bus.cycle s requests grants byte)
-    (BusLaws.cycle_served s requests grants byte
-    (ap (λ (o : Outcome). number o.answer) (writes_is v s (Bus.answer s requests byte) (Bus.granting s requests) grants z))))
-    (λ e. refl)
-    (λ e. refl)
+    come_to (ran (bus_cycle s requests grants byte)) (bus_after s requests byte)
+    (λ z. bus_counted s requests byte (Bus.cycle s requests grants byte) (BusLaws.cycle_served s requests grants byte z))
+    (λ n. let kept = BusLaws.cycle_refused s requests grants byte n in (kept.0, rw kept.1))
 
 -- the packed scan: what it serves, the plain scan serves on the unpacked wires
 module _ (s : State) (requests grants : List ℕ) where
@@ -167,25 +116,22 @@ module _ (s : State) (requests grants : List ℕ) where
       let same = served_unpacked s requests grants bytes z (length-replicate s.width 0) in
       rw same at (engine_served Scan s wires bytes [] (ap (λ (o : Outcome). number o.answer) same ∙ z))
 
+  packed_kept : (number packed_outcome.answer ≡ 0 → ⊥) → (packed_outcome.answer.state ≡ s) × (packed_outcome.written ≡ grants)
+  packed_kept n =
+      let v = PackedScan.questions s.width s.picks s.head requests (length grants) in
+      writes_refused v s (RoundRobin.answer s wires) (pack (RoundRobin.granting s wires)) grants refl n
+
   asked_packed : Asked (ran (packed_cycle s requests grants))
   asked_packed =
-      let v = PackedScan.questions s.width s.picks s.head requests (length grants) in
-      leaves v _ _ (seen s grants (unpack s.width)) (after s wires)
-      (λ z.
-      counted s wires _ _
-      (as_scan (ap (λ (o : Outcome). number o.answer) (writes_is v s (RoundRobin.answer s wires) (pack (RoundRobin.granting s wires)) grants z))))
-      (λ e. refl)
-      (λ e. refl)
+      come_to (ran (packed_cycle s requests grants)) (after s wires) (λ z. counted s wires _ _ (as_scan z))
+      (λ n. let kept = packed_kept n in (kept.0, rw kept.1))
 
 -- every call
 asked : (c : Call) → Asked (made c)
-asked (engine_opening Scan n m h) = asked_unwriting _ _ _
-asked (engine_opening Tree n m h) = asked_unwriting _ _ _
-asked (engine_opening Thermometer n m h) = asked_unwriting _ _ _
-asked (engine_opening KoggeStone n m h) = asked_unwriting _ _ _
+asked (engine_opening e n m h) = asked_unwriting _ _ _
 asked (bus_opening n m h) = asked_unwriting _ _ _
 asked (packed_opening n m h) = asked_unwriting _ _ _
-asked (cycle (engine_cycle e s requests grants nodes)) = asked_engine s requests grants nodes e
+asked (cycle (engine_cycle e s requests grants nodes)) = asked_engine e s requests grants nodes
 asked (cycle (bus_cycle s requests grants byte)) = asked_bus s requests grants byte
 asked (cycle (packed_cycle s requests grants)) = asked_packed s requests grants
 asked (image_read s bytes) = asked_unwriting _ _ _

@@ -1,45 +1,22 @@
 // The program `turns` between a reader and a writer.
 #![tactic(auto)]
 
-ghost use Rattle.std.specs.Prelude.{◌≤◌, ◌<◌, IfOk, OnOk, IfSome, length, take};
-ghost use Rattle.std.specs.Io.KnownBytes.{Appends, Consumes, IsAtEnd};
+ghost use Rattle.std.specs.Prelude.{OnOk, IfSome, take};
+ghost use Rattle.std.specs.Io.KnownBytes.{Appends};
 ghost use Rattle.transcript.specs.Text as Text;
 
-use std::io::{self, ErrorKind, Read, Write};
+use arrayvec::ArrayVec;
+use std::io::{self, Read, Write};
 
 // Reads an input from one, to its end or as far as `transcript` looks, and writes everything that the program prints for it to the
 // other. The first read or write that fails is the answer; where that is a read, nothing is written. The clause speaks of readers
-// and writers whose bytes are known.
+// and writers whose bytes are known. It reads into an `ArrayVec`, which allocates nothing.
 pub fn run<R: Read, W: Write>(input: &mut R, output: &mut W) -> io::Result<()>
     ensures { OnOk result (IfSome (R.remaining input.old) (λ xs. Appends (W.contents output.old) (W.contents output.new) (Text.text (take Text.read_size xs)))) }
 {
-    let mut bytes = [0u8; transcript::READ_SIZE];
-    let read = read_full(input, &mut bytes)?;
+    let mut bytes = ArrayVec::<u8, { transcript::READ_SIZE }>::new();
+    io::copy(&mut input.take(transcript::READ_SIZE as u64), &mut bytes)?;
     let mut text = [0u8; transcript::LIMIT];
-    let length = transcript::run(&bytes[..read], &mut text);
+    let length = transcript::run(bytes.as_slice(), &mut text);
     output.write_all(&text[..length])
-}
-
-// Reads until the buffer is full or the input ends, and answers how many bytes it put at the start of the buffer.
-fn read_full<R: Read>(input: &mut R, buffer: &mut [u8]) -> io::Result<usize>
-    ensures bound { IfOk result (λ n. n ≤ length buffer.new) }
-    ensures bytes { IfOk result (λ n. Consumes (R.remaining input.old) (R.remaining input.new) (take n buffer.new)) }
-    ensures end { IfOk result (λ n. n < length buffer.new → IsAtEnd (R.remaining input.new)) }
-{
-    let mut done = 0;
-    for _ in 0..u64::MAX {
-        if done == buffer.len() {
-            return Ok(done);
-        }
-        match input.read(&mut buffer[done..]) {
-            Ok(0) => return Ok(done),
-            Ok(n) => done += n,
-            Err(e) => {
-                if e.kind() != ErrorKind::Interrupted {
-                    return Err(e);
-                }
-            }
-        }
-    }
-    Err(ErrorKind::TimedOut.into())
 }

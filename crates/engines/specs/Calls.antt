@@ -4,6 +4,8 @@ use Rattle.std.specs.Prelude.{ℕ, List}
 use Rattle.rules.specs.Head.{Head}
 use Rattle.arbiter.specs.declared.Answer.{Answer}
 use Rattle.arbiter.specs.declared.State.{State}
+use Rattle.arbiter.specs.Questions as Questions
+use Rattle.arbiter.specs.Questions.{Verdict}
 use Rattle.arbiter.specs.Answers as Answers
 use Rattle.arbiter.specs.Cycle as RoundRobin
 use Rattle.tree.specs.Calls as Tree
@@ -12,12 +14,16 @@ use Rattle.engines.specs.declared.Engine.{Engine}
 use Rattle.engines.specs.declared.Engine.TheVariants.{Scan, Tree, Thermometer, KoggeStone}
 pub mod Laws
 
--- an engine's opening
+-- what an engine asks about a state
+abbrev pub questions : Engine → ℕ → ℕ → Head → Verdict
+questions Scan n m h = Questions.state n m h
+questions Tree n m h = Tree.state n m h
+questions Thermometer n m h = Questions.state n m h
+questions KoggeStone n m h = Questions.state n m h
+
+-- its opening
 abbrev pub opening : Engine → ℕ → ℕ → Head → Answer
-opening Scan n m h = RoundRobin.opening n m h
-opening Tree n m h = Tree.opening n m h
-opening Thermometer n m h = RoundRobin.opening n m h
-opening KoggeStone n m h = RoundRobin.opening n m h
+opening e n m h = Answers.opened (questions e n m h) n m h
 
 -- what a cycle leaves that knows no node buffer: its bytes stay
 abbrev pub with_nodes : Answers.Outcome → List ℕ → Outcome

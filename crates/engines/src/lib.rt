@@ -7,6 +7,7 @@ ghost use Rattle.engines.specs.Calls as Calls;
 use arbiter::engine::{Arbiter, RoundRobin};
 use arbiter::{Answer, State};
 use kogge_stone::KoggeStone;
+use rules::Head;
 use scan::Scan;
 use thermometer::Thermometer;
 use tree::Tree;
@@ -20,6 +21,21 @@ pub enum Engine {
     KoggeStone,
 }
 
+impl Engine {
+    // Opens the engine with this head or none.
+    fn opening(self, width: usize, picks: usize, head: Head) -> Answer
+        ensures { result ≡ Calls.opening self width picks head }
+    {
+        let verdict = match self {
+            Engine::Scan => Scan::ask(width, picks, head),
+            Engine::Tree => Tree::ask(width, picks, head),
+            Engine::Thermometer => Thermometer::ask(width, picks, head),
+            Engine::KoggeStone => KoggeStone::ask(width, picks, head),
+        };
+        Answer::opened(verdict.map(|()| State { width, picks, head }))
+    }
+}
+
 // A state that any of these engines may serve.
 #[derive(Clone, Copy)]
 pub struct Dispatch(pub State);
@@ -29,24 +45,14 @@ impl Dispatch {
     pub fn open(engine: Engine, width: usize, picks: usize) -> Answer
         ensures { result ≡ Calls.opening engine width picks None }
     {
-        match engine {
-            Engine::Scan => Scan::open(width, picks),
-            Engine::Tree => Tree::open(width, picks),
-            Engine::Thermometer => Thermometer::open(width, picks),
-            Engine::KoggeStone => KoggeStone::open(width, picks),
-        }
+        engine.opening(width, picks, None)
     }
 
     // Opens an engine with a head. Asks the same.
     pub fn open_at(engine: Engine, width: usize, picks: usize, head: usize) -> Answer
         ensures { result ≡ Calls.opening engine width picks (Some head) }
     {
-        match engine {
-            Engine::Scan => Scan::open_at(width, picks, head),
-            Engine::Tree => Tree::open_at(width, picks, head),
-            Engine::Thermometer => Thermometer::open_at(width, picks, head),
-            Engine::KoggeStone => KoggeStone::open_at(width, picks, head),
-        }
+        engine.opening(width, picks, Some(head))
     }
 
     // One cycle of an engine: writes the grants of these requests, and answers with their count and the next state. Asks what

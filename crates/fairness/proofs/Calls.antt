@@ -11,7 +11,7 @@ use lib.ListN.{get_or, get_or-eq_default}
 use borrow.Author.Tests.{ltb-true, ltb-false, eqb-true, eqb-false}
 use Rattle.rules.specs.Head.{Head}
 use Rattle.std.specs.Prelude.{Some}
-use Rattle.rules.specs.Lists.{bit, member}
+use Rattle.rules.specs.Lists.{member}
 use Rattle.rules.specs.Lists.Laws as Lists
 use Rattle.rules.specs.RoundRobin as Rule
 use Rattle.rules.specs.RoundRobin.{start}
@@ -20,7 +20,6 @@ use Rattle.rules.specs.Bus as BusRule
 use Rattle.arbiter.specs.declared.Answer.{Answer}
 use Rattle.arbiter.specs.declared.State.{State}
 use Rattle.arbiter.specs.Answers.{Outcome, moved, number}
-use Rattle.arbiter.specs.Answers.Laws.{writes_refused}
 use Rattle.engines.specs.Calls.Laws.{Served, engine_served, engine_refused}
 use Rattle.token_bus.specs.Calls.Laws as BusLaws
 use Rattle.fairness.specs.Cycles as Cycles
@@ -81,16 +80,12 @@ cycles s calls =
     s.head
     calls
 
-bit_test : (b : Bool) → eqb (bit b) 1 ≡ b
-bit_test true = refl
-bit_test false = refl
-
 -- the grant buffer holds 1 for those that are granted alone
 marked : (n m : ℕ) (h : Head) (asks : ℕ → Bool) (w : ℕ) → start h < n
     → eqb (get_or (Rule.grants n m h asks) w 0) 1 ≡ member w (Rule.granted n m h asks)
 marked n m h asks w head =
     Lists.split (ltb w n)
-    (λ t. rw (Laws.grants_member n m h asks w (ltb-true w n t)) (bit_test _))
+    (λ t. rw (Laws.grants_member n m h asks w (ltb-true w n t)) (Lists.bit_one _))
     (λ f.
     let out : n ≤ w = omega (arith, ltb-false w n f) in
     rw (get_or-eq_default (Rule.grants n m h asks) 0 {n = w} (omega (arith, Laws.grants_length n m h asks)))

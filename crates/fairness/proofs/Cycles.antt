@@ -1,6 +1,6 @@
 -- The wait rule over cycles of the round-robin rule, from the rule's laws alone.
 -- Assumes nothing.
-use Prim.Native.Nat.{ℕ, suc, ◌+◌, ◌%◌, ◌≤◌, ◌<◌}
+use Prim.Native.Nat.{ℕ, suc, ◌+◌, ◌≤◌, ◌<◌}
 use mathlib.Core.Path.{◌≡◌, refl, sym, ap, ◌∙◌}
 use mathlib.Core.Bool.{Bool, true, false, ◌&&◌, ◌||◌, true≢false}
 use mathlib.Core.List.{List, [], ◌∷◌, ◌++◌}
@@ -14,6 +14,7 @@ use Rattle.rules.specs.Lists.{bit, filter, count, member, before}
 use Rattle.rules.specs.Lists.Laws as Lists
 use Rattle.rules.specs.RoundRobin.{start, order, granted, next}
 use Rattle.rules.proofs.RoundRobin.Laws as Laws
+use Rattle.rules.specs.Bus as Bus
 use Rattle.rules.proofs.Bus.Laws as BusLaws
 use Rattle.fairness.specs.Cycles.{Cycle, Ruled, next_head, Chain, Waits, total, BoundedPicks}
 
@@ -31,6 +32,11 @@ module _ {C : Type 0} (right : Head → C → Type 0) (next : Head → C → Hea
   stopped : (cs rest : List C) (h : Head) → Chain right next h (cs ++ rest) → Chain right next h cs
   stopped [] rest h chain = tt
   stopped (c ∷ cs) rest h chain = (chain.0, stopped cs rest (next h c) chain.1)
+
+  -- a chain of which nothing is right for the first head is empty
+  pub chain_empty : (h : Head) → ((c : C) → right h c → ⊥) → (cs : List C) → Chain right next h cs → cs ≡ []
+  chain_empty h none [] chain = refl
+  chain_empty h none (c ∷ cs) chain = absurd (none c chain.0)
 
   pub resumed : (past cs rest : List C) (h : Head) → Chain right next h (past ++ (cs ++ rest)) → (k : Head) × Chain right next k cs
   resumed [] cs rest h chain = (h, stopped cs rest h chain)
@@ -208,11 +214,11 @@ waiting_cycles n h w (c ∷ cs) station follow waits =
           );
     }
 
--- the bus: with the token one on, one station fewer stands before w
-pub bus_nearer : (n t w : ℕ) → t < n → w < n → eqb w t ≡ false
-    → suc (length (before w (order n (Some ((t + 1) % n))))) ≡ length (before w (order n (Some t)))
-bus_nearer n t w token station other =
+-- the bus: an acknowledged cycle in which w asks moves the token one on, so one station fewer stands before w
+pub bus_nearer : (n t w : ℕ) (asks : ℕ → Bool) → t < n → w < n → asks w ≡ true → eqb w t ≡ false
+    → suc (length (before w (order n (Some (Bus.next n t true asks))))) ≡ length (before w (order n (Some t)))
+bus_nearer n t w asks token station asking other =
     let head = BusLaws.token_head n t token in
     let r = rw (Laws.start_at t) at (Laws.order_turned n (Some t) head) in
     let later : member w r.0 ≡ true = rw (r.1, other) at (Laws.order_member n (Some t) w (omega arith) station) in
-    rw (r.1, r.2, Lists.before_left w r.0 (t ∷ []) later, other)
+    rw (BusLaws.next_acknowledged n t asks (BusLaws.granted_some n t w asks token station asking), r.1, r.2, Lists.before_left w r.0 (t ∷ []) later, other)

@@ -1,7 +1,7 @@
 -- No smaller bound would do. All stations ask in each of several cycles, which one engine makes one after another; the station that
 -- stands last in the order waits as long as can be.
 -- Assumes nothing.
-use Prim.Native.Nat.{ℕ, zero, suc, ◌+◌, ◌-◌, ◌*◌, ◌%◌, ◌≤◌, ◌<◌}
+use Prim.Native.Nat.{ℕ, zero, suc, ◌+◌, ◌-◌, ◌*◌, ◌≤◌, ◌<◌}
 use mathlib.Core.Path.{◌≡◌, refl, sym, ap, ◌∙◌}
 use mathlib.Core.Bool.{Bool, true, false, ◌&&◌}
 use mathlib.Core.List.{List, [], ◌∷◌, append-nil}
@@ -21,8 +21,8 @@ use Rattle.rules.proofs.Bus.Laws as BusLaws
 use Rattle.arbiter.specs.declared.Answer.{Answer}
 use Rattle.arbiter.specs.declared.State.{State}
 use Rattle.arbiter.specs.Places.{Bits}
-use Rattle.arbiter.specs.Questions.{◌then◌, passed}
-use Rattle.arbiter.specs.Answers.{Outcome, if_passed, made, moved, number}
+use Rattle.arbiter.specs.Questions.{passed}
+use Rattle.arbiter.specs.Answers.{Outcome, made, moved, number}
 use Rattle.arbiter.specs.Answers.Laws.{opened_passed}
 use Rattle.engines.specs.declared.Engine.{Engine}
 use Rattle.engines.specs.declared.Engine.TheVariants.{Scan}
@@ -32,7 +32,8 @@ use Rattle.token_bus.specs.Calls.Laws as BusCallLaws
 use Rattle.fairness.specs.Waiting as Waiting
 use Rattle.fairness.specs.Waiting.{By, Call, Made, cycle, bus_cycle, run, served, asks, Each, Serves, Wait, AsksUntilGranted, GrantedWithin, BusServes, acknowledged, GrantedAcknowledged}
 use Rattle.fairness.proofs.Cycles.{all_front, all_nearer, bus_nearer}
-use Rattle.fairness.proofs.Calls.{read_ruled}
+use Rattle.fairness.specs.Cycles.{Ruled}
+use Rattle.fairness.proofs.Calls.{read, read_ruled, BusRight}
 
 -- all of n stations ask
 module _ (n : ℕ) where
@@ -117,16 +118,12 @@ module _ {How : Type 0} (leaves : How → State → List ℕ → List ℕ → Ou
   module _ (good : Head → Type 0)
       (serves : (h : Head) → good h → let o = (once h).left in
       (number o.answer ≡ 0) × (o.answer.state ≡ moved s (next h)) × good (next h)) where
-    from : (q : State) (h : Head) (k : ℕ) → q ≡ moved s h → served (run leaves (moved s h) (replicate k c)) ≡ repeated h k
-        → served (run leaves q (replicate k c)) ≡ repeated h k
-    from q h k e f = rw e f
-
     -- all of them are served
     all_served : (k : ℕ) (h : Head) → good h → served (run leaves (moved s h) (replicate k c)) ≡ repeated h k
     all_served zero h g = refl
     all_served (suc k) h g =
         let r = serves h g in
-        rw (eq-eqb _ 0 r.0) (ap {B = List (Made How)} (λ cs. once h ∷ cs) (from _ (next h) k r.1 (all_served k (next h) r.2)))
+        rw (eq-eqb _ 0 r.0) (ap {B = List (Made How)} (λ cs. once h ∷ cs) (rw r.1 (all_served k (next h) r.2)))
 
     -- `far` is how far a station is from the head. While that is m or more, each passes the station by and brings it m nearer
     module _ (p : Made How → Bool) (m : ℕ) (far : Head → ℕ)
@@ -169,6 +166,12 @@ module _ (s : State) (e : Engine) (opens : Serves e s) where
         rw k.2 (omega (arith, k.1, Laws.start_at k.0)),
       )
 
+  -- each is a cycle by the rule
+  ruled : (h : Head) → good h → Ruled s.width h (read s (once cycle s call after h))
+  ruled h g =
+      read_ruled s h (once cycle s call after h)
+      (engine_served e (moved s h) call.requests call.grants call.how.nodes (call_serves h g).0)
+
   -- what k such calls leave
   abbrev waits : ℕ → List (Made By)
   waits k = repeated cycle s call after s.head k
@@ -183,9 +186,7 @@ module _ (s : State) (e : Engine) (opens : Serves e s) where
     passes h g l =
         let n = s.width in
         let m = s.picks in
-        let r =
-        read_ruled s h (once cycle s call after h)
-        (engine_served e (moved s h) call.requests call.grants call.how.nodes (call_serves h g).0) in
+        let r = ruled h g in
         let out : member w (granted n m h (everyone n)) ≡ false =
         Laws.granted_member n m h (everyone n) w (omega arith) station
         ∙ rw (asks_all n w station, before_asks n h w (omega arith) station, le-ltb (far h) m l) in (
@@ -248,9 +249,7 @@ module _ (s : State) (e : Engine) (opens : Serves e s) where
       let n = s.width in
       let h = s.head in
       let g = first_good in
-      let r =
-      read_ruled s h (once cycle s call after h)
-      (engine_served e (moved s h) call.requests call.grants call.how.nodes (call_serves h g).0) in
+      let r = ruled h g in
       let is : Waiting.granted (start h) (once cycle s call after h) ≡ true =
       r.granted (start h)
       ∙ Laws.granted_member n s.picks h (everyone n) (start h) (omega arith) g
@@ -296,6 +295,10 @@ module _ (s : State) (opens : BusServes s) where
         BusCallLaws.token_moves n s.picks h _ g (BusLaws.next_below n (start h) true (everyone n) r.token),
       )
 
+  -- each is by the bus's rule
+  bus_right : (h : Head) → token h → BusRight s h (bus_once h)
+  bus_right h g = BusCallLaws.cycle_served (moved s h) (ones s.width) (replicate s.width 0) 1 (bus_call_serves h g).0
+
   abbrev bus_waits : ℕ → List (Made ℕ)
   bus_waits k = repeated bus_cycle s bus_call bus_after s.head k
 
@@ -309,7 +312,7 @@ module _ (s : State) (opens : BusServes s) where
     passed_by h g l =
         let n = s.width in
         let t = start h in
-        let r = BusCallLaws.cycle_served (moved s h) (ones n) (replicate n 0) 1 (bus_call_serves h g).0 in
+        let r = bus_right h g in
         let head = BusLaws.token_head n t r.token in
         let out : member w (granted n 1 (Some t) (everyone n)) ≡ false =
         Laws.granted_member n 1 (Some t) (everyone n) w (omega arith) station
@@ -321,17 +324,18 @@ module _ (s : State) (opens : BusServes s) where
     bus_closer h g l =
         let n = s.width in
         let t = start h in
-        let r = BusCallLaws.cycle_served (moved s h) (ones n) (replicate n 0) 1 (bus_call_serves h g).0 in
+        let r = bus_right h g in
         let head = BusLaws.token_head n t r.token in
-        let to : Bus.next n t true (everyone n) ≡ (t + 1) % n =
-        BusLaws.next_acknowledged n t (everyone n) (BusLaws.granted_some n t w (everyone n) r.token station (asks_all n w station)) in
-        let at : start (bus_after h) ≡ (t + 1) % n = Laws.start_at _ ∙ to in
         let first : before t (order n (Some t)) ≡ [] = rw (Laws.start_at t) at (Laws.before_first n (Some t) head) in
         let other : eqb w t ≡ false =
         Lists.split (eqb w t)
         (λ e. absurd (omega (arith, ap (λ (v : ℕ). length (before v (order n (Some t)))) (eqb-true w t e), ap length first)))
         (λ f. f) in
-        omega (arith, ap (λ (u : ℕ). length (before w (order n (Some u)))) at, bus_nearer n t w r.token station other)
+        omega (
+          arith,
+          ap (λ (u : ℕ). length (before w (order n (Some u)))) (Laws.start_at (Bus.next n t true (everyone n))),
+          bus_nearer n t w (everyone n) r.token station (asks_all n w station) other,
+        )
 
     bus_waits_pass : (k : ℕ) → k ≤ bus_far s.head → count (λ c. acknowledged c && Waiting.granted w c) (bus_waits k) ≡ 0
     bus_waits_pass k l =

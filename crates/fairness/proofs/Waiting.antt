@@ -1,9 +1,9 @@
 -- The wait rule over every list of calls. By the engines of the rule: the served ones are cycles of the round-robin rule, for which it
 -- is proved in Cycles. On the bus: from the laws of the bus's rule.
 -- Assumes nothing.
-use Prim.Native.Nat.{ℕ, zero, suc, ◌+◌, ◌-◌, ◌*◌, ◌%◌, ◌≤◌, ◌<◌}
+use Prim.Native.Nat.{ℕ, zero, suc, ◌-◌, ◌*◌, ◌≤◌, ◌<◌}
 use mathlib.Core.Path.{◌≡◌, refl, sym, ap, ◌∙◌}
-use mathlib.Core.Bool.{true, false, ◌&&◌, true≢false}
+use mathlib.Core.Bool.{Bool, true, false, ◌&&◌, true≢false}
 use mathlib.Core.List.{List, [], ◌∷◌, ◌++◌, map}
 use mathlib.Core.Logic.{inl, inr}
 use native.Mathlib.Omega.{arith}
@@ -28,7 +28,7 @@ use Rattle.engines.specs.Calls.Laws.{engine_opens, opens_allowed}
 use Rattle.token_bus.specs.Calls.Laws as BusCalls
 use Rattle.fairness.specs.Cycles.{Chain, Waits, total}
 use Rattle.fairness.specs.Waiting.{By, Made, cycle, bus_cycle, run, served, asks, granted, Each, OneLeast, Serves, UnservedRefused, Wait, ceiling, BoundedWaiting, NotTwice, AsksUntilGranted, GrantedWithin, GrantedInTime, BusServes, BusUnservedRefused, acknowledged, GrantedAcknowledged, BusBoundedWaiting}
-use Rattle.fairness.proofs.Cycles.{resumed, waiting_cycles, bus_nearer}
+use Rattle.fairness.proofs.Cycles.{chain_empty, resumed, waiting_cycles, bus_nearer}
 use Rattle.fairness.proofs.Calls.{Right, read, head_after, cycles, read_follows, BusRight, next_token, bus_cycles}
 use Rattle.fairness.proofs.Sharpness.{longest_wait, no_sooner, other_once, bus_no_sooner}
 
@@ -98,8 +98,12 @@ module _ (s : State) (e : Engine) (opens : Serves e s) where
   allows : Allowed s.width s.picks s.head
   allows = opens_allowed e s.width s.picks s.head opens
 
+  -- N/m rounded up is one at least
+  ceiling_some : 0 < ceiling s.width s.picks
+  ceiling_some = below_ceiling s.width s.picks 0 allows.picked (omega (arith, allows.some))
+
   short : (w : ℕ) (waiting : List (Made By)) → Wait s w waiting → length waiting < ceiling s.width s.picks
-  short w [] wait = below_ceiling s.width s.picks 0 allows.picked (omega (arith, allows.some))
+  short w [] wait = ceiling_some
   short w (c ∷ cs) wait = (wait_bounded s w c cs wait).short
 
   -- fewer cycles than N/m rounded up make fewer than N picks
@@ -113,8 +117,7 @@ module _ (s : State) (e : Engine) (opens : Serves e s) where
       → ceiling s.width s.picks ≤ limit
   shorter limit claim =
       let j = ceiling s.width s.picks - 1 in
-      let some = below_ceiling s.width s.picks 0 allows.picked (omega (arith, allows.some)) in
-      omega (arith, longest_wait s e opens j limit (within_ceiling j (omega arith)) claim)
+      omega (arith, ceiling_some, longest_wait s e opens j limit (within_ceiling j (omega (arith, ceiling_some))) claim)
 
 pub bounded_waiting : BoundedWaiting
 bounded_waiting s e opens = record {
@@ -136,11 +139,8 @@ pub one_least : OneLeast
 one_least claim j k a b = omega (arith, a.least k b.holds, b.least j a.holds)
 
 pub unserved_refused : UnservedRefused
-unserved_refused s calls none = only (served (run cycle s calls)) (cycles s calls)
-  where
-    only : (cs : List (Made By)) → Chain (Right s) (head_after s) s.head cs → cs ≡ []
-    only [] chain = refl
-    only (c ∷ cs) chain = absurd (none Scan (engine_opens s chain.0.allows))
+unserved_refused s calls none =
+    chain_empty (Right s) (head_after s) s.head (λ c r. none Scan (engine_opens s r.allows)) (served (run cycle s calls)) (cycles s calls)
 
 -- a station that asks until it is granted, and is not granted, asks in every cycle
 asks_each : (w k : ℕ) (cs : List (Made By)) → AsksUntilGranted w cs → count (granted w) (take k cs) ≡ 0 → Each (asks w) (take k cs)
@@ -209,13 +209,11 @@ module _ (s : State) (w : ℕ) where
       (λ g. rw (a, g) (omega arith))
       (λ g.
       let other : eqb w t ≡ false = not_at_token g in
-      let to : Bus.next n t (acknowledged c) (λ v. asks v c) ≡ (t + 1) % n =
-      rw a (BusLaws.next_acknowledged n t (λ v. asks v c) (BusLaws.granted_some n t w (λ v. asks v c) r.token station asking.0)) in
       rw (a, g)
       (omega (
         arith,
         acknowledged_grant cs k chain.1 asking.1
-            (omega (arith, at, ap (λ (u : ℕ). length (before w (order n (Some u)))) to, bus_nearer n t w r.token station other, ap bit a)),
+            (omega (arith, at ∙ ap (λ (b : Bool). length (before w (order n (Some (Bus.next n t b (λ v. asks v c)))))) a, bus_nearer n t w (λ v. asks v c) r.token station asking.0 other, ap bit a)),
       ))))
       (λ a.
       let stays : Bus.next n t (acknowledged c) (λ v. asks v c) ≡ t = rw a (BusLaws.next_unacknowledged n t (λ v. asks v c)) in
@@ -269,8 +267,5 @@ bus_bounded_waiting s opens = record {
 }
 
 pub bus_unserved_refused : BusUnservedRefused
-bus_unserved_refused s calls none = only (served (run bus_cycle s calls)) (bus_cycles s calls)
-  where
-    only : (cs : List (Made ℕ)) → Chain (BusRight s) (next_token s) s.head cs → cs ≡ []
-    only [] chain = refl
-    only (c ∷ cs) chain = absurd (none (passed_opened _ s.width s.picks s.head chain.0.passed))
+bus_unserved_refused s calls none =
+    chain_empty (BusRight s) (next_token s) s.head (λ c r. none (passed_opened _ s.width s.picks s.head r.passed)) (served (run bus_cycle s calls)) (bus_cycles s calls)

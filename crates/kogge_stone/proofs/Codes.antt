@@ -17,7 +17,6 @@ use Rattle.rules.specs.Lists.Laws as Lists
 use Rattle.rules.specs.KoggeStone.{joined}
 use Rattle.rules.proofs.KoggeStone.Laws as Network
 use Rattle.kogge_stone.specs.Steps.{Codes}
-use Rattle.kogge_stone.proofs.Fill.{Filled}
 
 -- the product of two bytes
 pub product_fits : (a b : ℕ) → a < 256 → b < 256 → a * b ≤ a * 255
@@ -62,16 +61,3 @@ every_code m bytes all q =
     Lists.split (ltb q (length bytes))
     (λ t. all q (ltb-true q (length bytes) t))
     (λ f. rw (get_or-eq_default bytes 0 (ltb-false q (length bytes) f)) (zero_is_code m))
-
--- a buffer that is being filled with joined codes
-pub filling_codes : (m d p : ℕ) (before codes : List ℕ) → Codes m before → Filled (joined m d before) before p codes → (q : ℕ)
-    → is_code m (get_or codes q 0) ≡ true
-filling_codes m d p before codes all f = every_code m codes at
-  where
-    at : Codes m codes
-    at q l =
-        Lists.split (ltb q p)
-        (λ t.
-        let u : q < length before = omega (arith, f.long) in
-        rw (f.done q (ltb-true q p t) u) (every_code m (joined m d before) (joined_codes m d before all) q))
-        (λ n. rw (f.kept q (ltb-false q p n)) (every_code m before all q))

@@ -1,9 +1,9 @@
 -- What is read off the running codes is what the round-robin rule grants and decides.
 -- Assumes nothing.
 use Prim.Native.Nat.{ℕ, zero, suc, ◌+◌, ◌-◌, ◌<◌}
-use mathlib.Core.Path.{◌≡◌, refl, sym, ap, ap₂, ◌∙◌}
+use mathlib.Core.Path.{◌≡◌, refl, sym, ap, ◌∙◌}
 use mathlib.Core.Bool.{Bool, true, ◌&&◌}
-use mathlib.Core.List.{List}
+use mathlib.Core.List.{List, []}
 use native.Mathlib.Omega.{arith}
 use native.Mathlib.Nat.{zero-add}
 use native.Mathlib.Numerals.{one-add}
@@ -12,6 +12,7 @@ use lib.Dec.{ltb}
 use lib.ListN.{length, get_or, take, drop, length-drop}
 use lib.Seq.{ext_get_or, get_or-take, get_or-drop, take_all}
 use borrow.Author.Tests.{ltb-true, ltb-false, lt-ltb, le-ltb}
+use Rattle.std.specs.Prelude.{Option, None, Some}
 use Rattle.rules.specs.Head.{Head}
 use Rattle.rules.specs.Lists.{bit, before}
 use Rattle.rules.specs.Lists.Laws as Lists
@@ -19,21 +20,18 @@ use Rattle.rules.specs.RoundRobin as RoundRobin
 use Rattle.rules.specs.RoundRobin.{start, order}
 use Rattle.rules.proofs.RoundRobin.Laws.{before_position, before_length}
 use Rattle.rules.specs.Thermometer as Thermometer
-use Rattle.rules.specs.Thermometer.{is_code, saturated, running_codes}
+use Rattle.rules.specs.Thermometer.{code, is_code, saturated, running_codes}
 use Rattle.rules.proofs.Thermometer.Laws.{zero_ones, code_own, code_below, grants_round_robin}
 use Rattle.rules.proofs.Thermometer.Running.{running_first, codes_inputs, codes_length, code_before, ones_past, code_last}
 use Rattle.rules.proofs.Walk.Laws.{Walked}
-use Rattle.arbiter.specs.Decisions.{requested, decision, counted}
+use Rattle.arbiter.specs.Decisions.{requested, decision, deciding, counted}
 use Rattle.arbiter.specs.Decisions.Laws.{walked}
 use Rattle.kogge_stone.specs.Steps.{station, granted}
 use Rattle.kogge_stone.proofs.Grants as Grants
 
-module _ (full : ℕ) (h : Head) (requests : List ℕ) (coded : is_code 8 full ≡ true) (first : start h < length requests) where
+module _ (m full : ℕ) (h : Head) (requests : List ℕ) (most : ones full ≡ m) (coded : is_code 8 full ≡ true) (first : start h < length requests) where
   abbrev n : ℕ
   n = length requests
-
-  abbrev m : ℕ
-  m = ones full
 
   abbrev asks : ℕ → Bool
   asks = requested requests
@@ -49,13 +47,14 @@ module _ (full : ℕ) (h : Head) (requests : List ℕ) (coded : is_code 8 full �
       (Grants.long full (start h) requests _ ∙ sym (Lists.length_table _ 0 n))
       (λ w l.
       let u : w < n = omega (arith, Grants.long full (start h) requests (take n cs)) in
+      let own : code m ≡ full = ap code (sym most) ∙ sym (code_own 8 full coded) in
       let p = length (before w (order n h)) in
       let few : ltb (get_or (take n cs) p 0) full ≡ ltb (saturated n m h asks w) m =
       rw (
         get_or-take n cs p 0 (omega (arith, before_length n h w (omega arith) u)),
         code_before n m h asks (omega arith) w u,
         ← code_below (saturated n m h asks w) m,
-        ← code_own 8 full coded,
+        own,
       ) in
       Grants.at full (start h) requests (take n cs) w u
       ∙ rw (← before_position n h w u, few)
@@ -113,31 +112,42 @@ module _ (full : ℕ) (h : Head) (requests : List ℕ) (coded : is_code 8 full �
       let k = p - (n - start h) in
       rw f (omega (arith, inside), before_position n h k (omega (arith, inside)) ∙ rw (lt-ltb k (start h) (omega (arith, inside))) (omega arith)))
 
-  read : {new : List ℕ} → new ≡ RoundRobin.grants n m h asks → Walked n m h asks (ones total) w new
-  read e =
+  read : {z : Option ℕ} {new : List ℕ} → (ones total ≡ 0 → z ≡ None) → (0 < ones total → z ≡ Some w) → new ≡ RoundRobin.grants n m h asks
+      → Walked n m h asks (ones total) z new
+  read none some e =
       record {
         counted = ones_past n m h asks (omega arith);
         bytes = e;
-        within = λ some. placed.0;
+        nobody = none;
         last =
-            λ some.
-            code_last n m h asks (omega arith) w placed.0
-            (λ same. earlier some (ap (λ (k : ℕ). get_or cs k 0) (sym placed.1) ∙ same))
-            (ap (λ (k : ℕ). get_or cs (suc k) 0) placed.1 ∙ reached);
+            λ l. (
+              w,
+              some l,
+              placed.0,
+              code_last n m h asks (omega arith) w placed.0
+                  (λ same. earlier l (ap (λ (k : ℕ). get_or cs k 0) (sym placed.1) ∙ same))
+                  (ap (λ (k : ℕ). get_or cs (suc k) 0) placed.1 ∙ reached),
+            );
       }
 
   -- what the steps make of these counts
-  module _ (given : List ℕ) (is : given ≡ cs) where
-    pub given_length : length given ≡ suc n
-    given_length = ap length is ∙ codes_length n m h asks (omega arith)
+  module _ (given : List ℕ) (is : given ≡ cs) (f : ℕ) (ef : f ≡ start h) (new : List ℕ) (eg : new ≡ granted full f requests (take n given))
+      (c : ℕ) (ec : c ≡ ones (get_or given n 0)) where
+    bytes : new ≡ RoundRobin.grants n m h asks
+    bytes = eg ∙ rw (ef, is) grants_rule
 
-    pub decides : (f c q v : ℕ) (new : List ℕ) → f ≡ start h → new ≡ granted full f requests (take n given)
-        → c ≡ ones (get_or given n 0) → q ≡ length (before (get_or given n 0) (take (length given - 1) (drop 1 given))) → v ≡ station n f q
-        → (counted n h c v ≡ decision n m h asks) × (new ≡ RoundRobin.grants n m h asks)
-    decides f c q v new ef eg ec eq ev =
-        let bytes : new ≡ RoundRobin.grants n m h asks = eg ∙ rw (ef, is) grants_rule in
+    sum : c ≡ ones total
+    sum = ec ∙ rw is
+
+    -- where nobody is counted
+    pub idles : c ≡ 0 → (deciding n h [] ≡ decision n m h asks) × (new ≡ RoundRobin.grants n m h asks)
+    idles none = (walked n m h asks (read {z = None} (λ e. refl) (λ some. absurd (omega (arith, sum))) bytes), bytes)
+
+    -- and where somebody is
+    pub decides : (c ≡ 0 → ⊥) → (q v : ℕ) → q ≡ length (before (get_or given n 0) (take (length given - 1) (drop 1 given))) → v ≡ station n f q
+        → (counted n h c (Some v) ≡ decision n m h asks) × (new ≡ RoundRobin.grants n m h asks)
+    decides any q v eq ev =
         let rest : take (length given - 1) (drop 1 given) ≡ drop 1 given = take_all (length given - 1) (drop 1 given) (simp length-drop (omega arith)) in
         let place : q ≡ p = eq ∙ rw (rest, is) in
         let here : v ≡ w = ev ∙ rw (ef, place) in
-        let sum : c ≡ ones total = ec ∙ rw is in
-        (ap₂ (counted n h) sum here ∙ walked n m h asks (read bytes), bytes)
+        (rw (sum, here) (walked n m h asks (read {z = Some w} (λ e. absurd (any (sum ∙ e))) (λ some. refl) bytes)), bytes)

@@ -1,5 +1,4 @@
 mod Codes
 mod Counts
-mod Fill
 mod Grants
 mod Order

@@ -16,9 +16,9 @@ ghost use Rattle.arbiter.specs.Questions as Questions;
 ghost use Rattle.arbiter.specs.Questions.{max_width};
 ghost use Rattle.kogge_stone.specs.Steps as Steps;
 
-use arbiter::engine::{Arbiter, RoundRobin};
+use arbiter::engine::{Arbiter, RoundRobin, ServedCycle};
 use arbiter::question::{self, Verdict};
-use arbiter::{Decision, MAX_WIDTH, State, decide, first_station};
+use arbiter::{Decision, MAX_WIDTH, State, decide, first_station, idle};
 use rules::Head;
 use thermometer::adder::{self, Picks};
 
@@ -49,87 +49,62 @@ impl Arbiter for KoggeStone {
 
 impl RoundRobin for KoggeStone {
     // Counts by the network and grants by the counts. A small cycle does not clear the large array.
-    fn grant(
-        width: usize,
-        picks: usize,
-        head: Head,
-        requests: &[u8],
-        grants: &mut [u8],
-    ) -> Decision {
-        let picks = Picks::new(picks);
-        if width < FEW_COUNTS {
-            return count_in::<FEW_COUNTS>(picks, head, requests, grants);
+    fn grant(cycle: &mut ServedCycle<'_>) -> Decision {
+        if cycle.requests.len() < FEW_COUNTS {
+            return count_round(cycle, &mut [0u8; FEW_COUNTS]);
         }
-        count_in::<MAX_COUNTS>(picks, head, requests, grants)
+        count_round(cycle, &mut [0u8; MAX_COUNTS])
     }
 }
 
-// Counts in an array that has room for `ROOM` counts.
-fn count_in<const ROOM: usize>(
-    picks: Picks,
-    head: Head,
-    requests: &[u8],
-    grants: &mut [u8],
-) -> Decision
-    requires head_in_bounds { start head < length requests.now }
-    requires requests_len_bound { length requests.now ≤ max_width }
-    requires bits { Bits requests.now }
-    requires room { length requests.now < ROOM }
-    requires room_bound { ROOM ≤ max_width + 1 }
-    requires grants_len { length grants.old ≡ length requests.now }
-    ensures value { result ≡ decision (length requests.now) (ones picks.code) head (requested requests.now) }
-    ensures grants_after { grants.new ≡ RoundRobin.grants (length requests.now) (ones picks.code) head (requested requests.now) }
-{
-    let mut counts = [0u8; ROOM];
-    count_round(
-        picks,
-        head,
-        requests,
-        &mut counts[..requests.len() + 1],
-        grants,
-    )
-}
-
-// Counts by the network, and grants by the counts. `counts` is room for one before each position of the order and one past the last.
+// Counts by the network, and grants by the counts. `room` has room for a count before each position of the order and one past the last.
 // The network takes the grant buffer for the room that it needs: all its bytes are written afterwards.
-fn count_round(
-    picks: Picks,
-    head: Head,
-    requests: &[u8],
-    counts: &mut [u8],
-    grants: &mut [u8],
-) -> Decision
-    requires head_in_bounds { start head < length requests.now }
-    requires requests_len_bound { length requests.now ≤ max_width }
-    requires bits { Bits requests.now }
-    requires counts_len { length counts.old ≡ length requests.now + 1 }
-    requires grants_len { length grants.old ≡ length requests.now }
-    ensures value { result ≡ decision (length requests.now) (ones picks.code) head (requested requests.now) }
-    ensures grants_after { grants.new ≡ RoundRobin.grants (length requests.now) (ones picks.code) head (requested requests.now) }
+fn count_round(cycle: &mut ServedCycle<'_>, room: &mut [u8]) -> Decision
+    requires room_bound { length cycle.old.requests.now < length room.old }
+    ensures value { result ≡ decision (length cycle.old.requests.now) cycle.old.picks cycle.old.head (requested cycle.old.requests.now) }
+    ensures same_reference { cycle.new.grants.ghost_name ≡ cycle.old.grants.ghost_name }
+    ensures grants_after { cycle.new.grants.now ≡ RoundRobin.grants (length cycle.old.requests.now) cycle.old.picks cycle.old.head (requested cycle.old.requests.now) }
 {
+    let counts = &mut room[..cycle.requests.len() + 1];
+    let picks = Picks::new(cycle.picks);
     counts[0] = 0;
-    network::run(picks, head, requests, &mut counts[1..], grants);
-    read_off(picks, head, requests, counts, grants)
+    network::run(
+        picks,
+        cycle.head,
+        cycle.requests,
+        &mut counts[1..],
+        cycle.grants,
+    );
+    read_off(cycle, picks, counts)
 }
 
 // Reads the grants off the running codes, of which there is one before each position of the order and one past the last, and decides.
 // The station whose own request brings the count to that of all is granted last.
-fn read_off(picks: Picks, head: Head, requests: &[u8], counts: &[u8], grants: &mut [u8]) -> Decision
-    requires head_in_bounds { start head < length requests.now }
-    requires requests_len_bound { length requests.now ≤ max_width }
-    requires grants_len { length grants.old ≡ length requests.now }
-    requires counts_len { length counts.now ≡ length requests.now + 1 }
-    requires counts_value { counts.now ≡ Rule.running_codes (length requests.now) (ones picks.code) head (requested requests.now) }
-    ensures value { result ≡ decision (length requests.now) (ones picks.code) head (requested requests.now) }
-    ensures grants_after { grants.new ≡ RoundRobin.grants (length requests.now) (ones picks.code) head (requested requests.now) }
+fn read_off(cycle: &mut ServedCycle<'_>, picks: Picks, counts: &[u8]) -> Decision
+    requires picks_value { ones picks.code ≡ cycle.old.picks }
+    requires counts_value { counts.now ≡ Rule.running_codes (length cycle.old.requests.now) cycle.old.picks cycle.old.head (requested cycle.old.requests.now) }
+    requires counts_len { length counts.now ≡ length cycle.old.requests.now + 1 }
+    ensures value { result ≡ decision (length cycle.old.requests.now) cycle.old.picks cycle.old.head (requested cycle.old.requests.now) }
+    ensures same_reference { cycle.new.grants.ghost_name ≡ cycle.old.grants.ghost_name }
+    ensures grants_after { cycle.new.grants.now ≡ RoundRobin.grants (length cycle.old.requests.now) cycle.old.picks cycle.old.head (requested cycle.old.requests.now) }
 {
-    let width = requests.len();
-    let first = first_station(head);
-    grant_round(picks.code, first, requests, &counts[..width], grants);
+    let width = cycle.requests.len();
+    let first = first_station(cycle.head);
+    grant_round(
+        picks.code,
+        first,
+        cycle.requests,
+        &counts[..width],
+        cycle.grants,
+    );
     let total = counts[width];
+    let count = adder::count(total);
+    if count == 0 {
+        return idle(width, cycle.head);
+    }
     let position = first_place(total, &counts[1..]);
     let last = station(width, first, position);
-    decide(width, head, adder::count(total), last)
+    decide(width, cycle.head, count, Some(last))
 }
 
 // The station at a position of the order.
@@ -159,8 +134,8 @@ fn grant_round(full: u8, first: usize, requests: &[u8], counts: &[u8], grants: &
     grant_run(full, low, low_counts, low_grants);
 }
 
-// Writes the grants of a run of stations, of which `counts` has the count before each. By index, since of a buffer that is written
-// through `iter_mut` a proof knows the length alone.
+// Writes the grants of a run of stations, of which `counts` has the count before each. By index, since what is written through `zip` a
+// proof knows by its length alone.
 fn grant_run(full: u8, requests: &[u8], counts: &[u8], grants: &mut [u8])
     requires counts_len { length counts.now ≡ length requests.now }
     requires grants_len { length grants.old ≡ length requests.now }
@@ -178,7 +153,8 @@ fn grant(full: u8, request: u8, count: u8) -> u8
     u8::from((request == 1) & (count < full))
 }
 
-// The first place that holds this byte, or how many there are where none does.
+// The first place that holds this byte, or how many there are where none does. Among the counts one does, the last, so an Option would
+// have a branch that is never taken.
 fn first_place(byte: u8, bytes: &[u8]) -> usize
     ensures { result ≡ length (before byte bytes.now) }
 {

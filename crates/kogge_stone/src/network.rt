@@ -57,7 +57,7 @@ fn join_all(picks: Picks, codes: &mut [u8], before: &mut [u8])
 }
 
 // Joins the code of each position that is at least `distance` from the first to the code of the position that far before it, as it
-// was `before`. By index, since of a buffer that is written through `iter_mut` a proof knows the length alone.
+// was `before`. By index, since what is written through `zip` a proof knows by its length alone.
 fn join_at(picks: Picks, distance: usize, before: &[u8], codes: &mut [u8])
     requires codes { Codes (ones picks.code) before.now }
     requires codes_value { codes.old ≡ before.now }

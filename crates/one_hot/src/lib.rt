@@ -9,10 +9,9 @@ ghost use Rattle.arbiter.specs.Questions as Questions;
 ghost use Rattle.arbiter.specs.Questions.{◌then◌};
 ghost use Rattle.one_hot.specs.Calls as Calls;
 
-use arbiter::question::{self, Verdict};
 use arbiter::refusal::Refusal;
 use arbiter::search::first_one;
-use arbiter::{Answer, Decision, State, headed};
+use arbiter::{Answer, Decision, State, headed, question};
 use rules::Head;
 
 // A state whose head is read from an image or written as one.
@@ -49,11 +48,12 @@ fn read_head(width: usize, picks: usize, head: Head, image: &[u8]) -> Result<Dec
     question::state(width, picks, head)?;
     question::read_length(width, image.len())?;
     question::read(image)?;
-    single_one(image)?;
-    Ok(headed(first_one(0, image)))
+    let shown = single_one(image)?;
+    Ok(headed(shown))
 }
 
 // The questions of writing one; where they pass it writes the image of the head, which stays.
+#[tactic(auto, using(arbiter::specs::Questions::Laws::writable), unfolding(crate::specs::Calls::image))]
 fn write_head(width: usize, picks: usize, head: Head, image: &mut [u8]) -> Result<Decision, Refusal>
     ensures value { result ≡ (Questions.write width picks head width (length image.old) then Ok (Decisions.headed head)) }
     ensures image_after { image.new ≡ Answers.if_passed (Questions.write width picks head width (length image.old)) (Calls.image width head) (λ _. image.old) }
@@ -66,16 +66,16 @@ fn write_head(width: usize, picks: usize, head: Head, image: &mut [u8]) -> Resul
     Ok(headed(head))
 }
 
-// Question 10: has an image at most one 1? The place of a refusal is that of the second.
+// Question 10, has an image at most one 1, and the head that it shows where it has. The place of a refusal is that of the second 1.
 #[tactic(auto, using(crate::specs::Calls::Laws::one_hot_none, crate::specs::Calls::Laws::one_hot_single, crate::specs::Calls::Laws::one_hot_second, crate::specs::Calls::Laws::one_below))]
-fn single_one(image: &[u8]) -> Verdict
-    ensures { result ≡ Questions.one_hot image.now }
+fn single_one(image: &[u8]) -> Result<Head, Refusal>
+    ensures { result ≡ (Questions.one_hot image.now then Ok (Calls.head_of image.now)) }
 {
     let Some(one) = first_one(0, image) else {
-        return Ok(());
+        return Ok(None);
     };
     match first_one(one + 1, image) {
-        None => Ok(()),
+        None => Ok(Some(one)),
         Some(another) => Err(Refusal::SecondOne(another)),
     }
 }

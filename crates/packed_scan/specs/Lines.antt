@@ -1,7 +1,8 @@
--- Packed requests that have passed the questions about them, and the line that an entry of the table names.
+-- Packed requests that have passed the questions about them, the line that an entry of the table names, and what a search in a byte
+-- finds.
 -- Assumes nothing.
-use Rattle.std.specs.Prelude.{ℕ, ◌≤◌, ◌≡◌, cond, ltb, List, [], length, Option, None, Some}
-use Rattle.rules.specs.Packing.{packed_length}
+use Rattle.std.specs.Prelude.{ℕ, ◌+◌, ◌*◌, ◌/◌, ◌%◌, ◌≤◌, ◌≡◌, cond, ltb, List, [], length, get_or, Option, None, Some}
+use Rattle.rules.specs.Packing.{packed_length, first_line}
 use Rattle.arbiter.specs.Places.{set_lines}
 use Rattle.arbiter.specs.Questions.{max_width}
 pub mod Laws
@@ -15,3 +16,12 @@ pub record Packed (n : ℕ) (packed : List ℕ) : Type 0 where
 -- the line that an entry of the table names: 8 is none
 abbrev pub listed : ℕ → Option ℕ
 listed entry = cond (ltb entry 8) (Some entry) None
+
+-- a line of a byte, counted through the lines of all bytes
+abbrev pub through : ℕ → Option ℕ → Option ℕ
+through byte None = None
+through byte (Some line) = Some (8 * byte + line)
+
+-- the first set line from a line on in that line's byte
+abbrev pub in_byte : ℕ → List ℕ → Option ℕ
+in_byte from packed = through (from / 8) (listed (first_line (get_or packed (from / 8) 0) (from % 8)))

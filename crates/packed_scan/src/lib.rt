@@ -88,26 +88,24 @@ fn grant(width: usize, head: Head, requests: &[u8], grants: &mut [u8]) -> Decisi
     let Some(station) = first_request(first, requests) else {
         return idle(width, head);
     };
-    grants[station / 8] = lines::single(station % 8);
-    decide(width, head, 1, station)
+    grants[station / 8] = lines::single(station);
+    decide(width, head, 1, Some(station))
 }
 
 // The first station that asks from `first` on and then round, or none. In the byte of `first` it looks from that line on. Where none
 // of these asks, nor any station at all, there is none; else it looks at the next byte that is not 0, the byte of `first` last.
-#[tactic(auto, using(crate::specs::Lines::Laws::round_quiet, crate::specs::Lines::Laws::highest_zero, crate::specs::Lines::Laws::next_none))]
+#[tactic(auto, using(crate::specs::Lines::Laws::round_some, crate::specs::Lines::Laws::round_quiet, crate::specs::Lines::Laws::highest_zero, crate::specs::Lines::Laws::next_none, crate::specs::Lines::Laws::round_other))]
 fn first_request(first: usize, requests: &[u8]) -> Option<usize>
     requires first_bound { first < 8 * length requests.now }
     requires requests_len_bound { length requests.now ≤ Questions.max_width }
     ensures { result ≡ Places.first (Places.set_lines first requests.now ++ Places.set_lines 0 requests.now) }
 {
-    let home = first / 8;
-    if let Some(line) = lines::first_line(requests[home], first % 8) {
-        return Some(8 * home + line);
+    if let Some(station) = lines::first_in_byte(first, requests) {
+        return Some(station);
     }
     if highest(requests) == 0 {
         return None;
     }
-    let byte = lines::next_byte(home, requests)?;
-    let line = lines::first_line(requests[byte], 0)?;
-    Some(8 * byte + line)
+    let byte = lines::next_byte(first / 8, requests)?;
+    lines::first_in_byte(8 * byte, requests)
 }

@@ -4,7 +4,7 @@ ghost use Rattle.rules.specs.Packing.{packed_length};
 ghost use Rattle.arbiter.specs.Questions as Questions;
 ghost use Rattle.packed_scan.specs.Calls as Calls;
 
-use crate::lines::first_line;
+use crate::lines::first_in_byte;
 use arbiter::question::{self, Verdict};
 use arbiter::refusal::Refusal;
 use rules::Head;
@@ -26,16 +26,16 @@ pub(crate) fn state(width: usize, picks: usize, head: Head) -> Verdict
 }
 
 // Question 14: is no bit set that is no station's? Only the last byte can have one; the place of a refusal is that of the byte.
-#[tactic(auto, using(crate::specs::Calls::Laws::unused_none, crate::specs::Lines::Laws::listed_none, crate::specs::Lines::Laws::set_past, crate::specs::Lines::Laws::set_none))]
+#[tactic(auto, using(crate::specs::Calls::Laws::unused_none, crate::specs::Calls::Laws::unused_in, crate::specs::Lines::Laws::set_past, crate::specs::Lines::Laws::in_last))]
 fn unused_bits(width: usize, requests: &[u8]) -> Verdict
     requires { length requests.now ≡ packed_length width }
     ensures { result ≡ Questions.unused_bits width requests.now }
 {
     let last = width / 8;
-    let Some(byte) = requests.get(last) else {
+    if last == requests.len() {
         return Ok(());
-    };
-    match first_line(*byte, width % 8) {
+    }
+    match first_in_byte(width, requests) {
         None => Ok(()),
         Some(_) => Err(Refusal::UnusedBit(last)),
     }

@@ -1,20 +1,23 @@
 -- Thermometer codes by counting.
 -- Assumes nothing.
-use Rattle.std.specs.Prelude.{ℕ, ◌+◌, Bool, cond, min, ◌&&◌, [], ◌∷◌, leb, eqb, get_or}
-use Rattle.reference.specs.Count.{tally}
+use Rattle.std.specs.Prelude.{ℕ, ◌+◌, Bool, cond, min, ◌&&◌, Option, None, Some, List, [], ◌∷◌, leb, eqb, get_or, count_by, slice_range}
 pub mod Laws
 
--- the code of a count, for 0 to 8: 0 for any other
-unfoldable pub code : ℕ → ℕ
-code c = get_or (0 ∷ 1 ∷ 3 ∷ 7 ∷ 15 ∷ 31 ∷ 63 ∷ 127 ∷ 255 ∷ []) c 0
+-- the codes of the counts 0 to 8
+abbrev pub codes : List ℕ
+codes = 0 ∷ 1 ∷ 3 ∷ 7 ∷ 15 ∷ 31 ∷ 63 ∷ 127 ∷ 255 ∷ []
 
--- a byte is no less than the code of c
+-- the code of a count, for 0 to 8
+unfoldable pub code : ℕ → ℕ
+code c = get_or codes c 0
+
+-- a byte is no less than a code
 unfoldable pub reaches : ℕ → ℕ → Bool
-reaches byte c = leb (code c) byte
+reaches byte c = leb c byte
 
 -- the count of a code: how many of the codes of 1 to m it is no less than
 unfoldable pub counted : ℕ → ℕ → ℕ
-counted m byte = tally (reaches byte) 1 m
+counted m byte = count_by (reaches byte) (slice_range codes 1 (m + 1))
 
 -- the picks are in 1 to 8
 unfoldable pub allowed : ℕ → Bool
@@ -24,6 +27,6 @@ allowed m = leb 1 m && leb m 8
 unfoldable pub is_code : ℕ → ℕ → Bool
 is_code m byte = allowed m && eqb (code (counted m byte)) byte
 
--- the saturated sum of two codes for m picks: 0 where one is none
-unfoldable pub sum : ℕ → ℕ → ℕ → ℕ
-sum m left right = cond (is_code m left && is_code m right) (code (min m (counted m left + counted m right))) 0
+-- the saturated sum of two codes for m picks, where both are codes
+unfoldable pub sum : ℕ → ℕ → ℕ → Option ℕ
+sum m left right = cond (is_code m left && is_code m right) (Some (code (min m (counted m left + counted m right)))) None

@@ -1,129 +1,145 @@
 // A model of the rules for tests, written apart from the engines and by other means: by each station's distance from the start of
-// the order, and by counting. Every function answers for any input.
+// the order, and by counting. Every public function answers for any input.
 #![tactic(auto)]
 
 pub mod codes;
 mod tally;
 
-ghost use Rattle.std.specs.Prelude.{◌≡◌};
+ghost use Rattle.std.specs.Prelude.{◌≡◌, ◌+◌, ◌≤◌};
 ghost use Rattle.reference.specs.Turns as Turns;
 
-use tally::{asking, asks, nearer};
+// A cycle: the number of stations, the most grants, the head, and the request bytes. On the bus the head is the token.
+#[derive(Clone, Copy)]
+pub struct Cycle<'a> {
+    pub width: usize,
+    pub picks: usize,
+    pub head: Option<usize>,
+    pub requests: &'a [u8],
+}
 
-// How far a station is from `start`, going up and round. Of 4 stations, 1 is 3 away from 2. Where either is no station it is 0.
-#[tactic(auto, unfolding(crate::specs::Turns::distance))]
-pub fn distance(width: usize, start: usize, station: usize) -> usize
-    ensures { result ≡ Turns.distance width start station }
+impl Cycle<'_> {
+    // Where the order starts: at the head, or at 0 where there is none.
+    fn start(&self) -> usize
+        ensures { result ≡ Turns.start self.now }
+    {
+        self.head.unwrap_or(0)
+    }
+
+    // How far a station is from the start, going up and round: as far as to the end, and `station` more. Of 4 stations, 1 is 3 away
+    // from 2. Where either is no station it is 0.
+    #[tactic(auto, unfolding(crate::specs::Turns::distance))]
+    pub fn distance(&self, station: usize) -> usize
+        ensures { result ≡ Turns.distance self.now station }
+    {
+        let start = self.start();
+        if start < self.width && station < self.width {
+            wrapped_sum(self.width, self.width - start, station)
+        } else {
+            0
+        }
+    }
+
+    // The station that is `far` away from the start, at most a whole round: of 4 stations, 3 away from 2 is 1. It is the start itself
+    // where that is no station.
+    #[tactic(auto, unfolding(crate::specs::Turns::away))]
+    pub fn away(&self, far: usize) -> usize
+        ensures { result ≡ Turns.away self.now far }
+    {
+        let start = self.start();
+        if start < self.width {
+            wrapped_sum(self.width, start, far)
+        } else {
+            start
+        }
+    }
+
+    // Whether the cycle grants a station: it asks, and fewer than `picks` that ask are nearer to the start. False where either is no
+    // station.
+    #[tactic(auto, unfolding(crate::specs::Turns::granted))]
+    pub fn granted(&self, station: usize) -> bool
+        ensures { result ≡ Turns.granted self.now station }
+    {
+        self.start() < self.width
+            && station < self.width
+            && self.asks(station)
+            && self.nearer(station) < self.picks
+    }
+
+    // A station's count: how many that ask are nearer to the start, `picks` at the most.
+    #[tactic(auto, unfolding(crate::specs::Turns::ahead))]
+    pub fn ahead(&self, station: usize) -> usize
+        ensures { result ≡ Turns.ahead self.now station }
+    {
+        self.picks.min(self.nearer(station))
+    }
+
+    // How many the cycle grants: `picks`, or all that ask if these are fewer.
+    #[tactic(auto, unfolding(crate::specs::Turns::count))]
+    pub fn count(&self) -> usize
+        ensures { result ≡ Turns.count self.now }
+    {
+        self.picks.min(self.asking(0, self.width))
+    }
+
+    // The next head: one past the granted station that is farthest from the start. If no one is granted a head stays, and no head
+    // becomes the last station.
+    #[tactic(auto, using(crate::specs::Turns::Laws::reach_le), unfolding(crate::specs::Turns::next, crate::specs::Turns::idle))]
+    pub fn next(&self) -> usize
+        ensures { result ≡ Turns.next self.now }
+    {
+        let last = self.width.saturating_sub(1);
+        match self.reach() {
+            None => self.head.unwrap_or(last),
+            Some(far) => self.away(far + 1),
+        }
+    }
+
+    // The next token: one past the token if someone asks and the grant is acknowledged. Else, and where the token is no station, it
+    // is the same token.
+    #[tactic(auto, unfolding(crate::specs::Turns::next_token))]
+    pub fn next_token(&self, acknowledged: bool) -> usize
+        ensures { result ≡ Turns.next_token self.now acknowledged }
+    {
+        if self.asking(0, self.width) > 0 && acknowledged {
+            self.away(1)
+        } else {
+            self.start()
+        }
+    }
+
+    // The value of a tree node over the stations from `from` up to `to`: 2 if the head is among them, and 1 more if one of them asks.
+    // If the head is among them, those before it do not count.
+    #[tactic(auto, unfolding(crate::specs::Turns::node, crate::specs::Turns::valued, crate::specs::Turns::some))]
+    pub fn node(&self, from: usize, to: usize) -> u8
+        ensures { result ≡ Turns.node self.now from to }
+    {
+        match self.head {
+            Some(head) if (from..to).contains(&head) => 2 + u8::from(self.asking(head, to) > 0),
+            _ => u8::from(self.asking(from, to) > 0),
+        }
+    }
+
+    // The farthest distance of a granted station. None where no one is granted.
+    #[tactic(auto, unfolding(crate::specs::Turns::reach))]
+    fn reach(&self) -> Option<usize>
+        ensures { result ≡ Turns.reach self.now }
+    {
+        (0..self.width)
+            .filter(|i| self.granted(*i))
+            .map(|i| self.distance(i))
+            .max()
+    }
+}
+
+// The sum of two numbers on the round, less a whole round where it is that much or more. Of 4 stations, 2 and 3 give 1.
+#[tactic(auto, unfolding(crate::specs::Turns::wrapped))]
+fn wrapped_sum(width: usize, left: usize, right: usize) -> usize
+    requires { left ≤ width }
+    ensures { result ≡ Turns.wrapped width (left + right) }
 {
-    if width <= start || width <= station {
-        0
-    } else if start <= station {
-        station - start
+    if right < width - left {
+        left + right
     } else {
-        width - start + station
-    }
-}
-
-// Whether a cycle that starts at `start` grants a station: it asks, and fewer than `picks` that ask are nearer to `start`. False
-// where either is no station.
-#[tactic(auto, unfolding(crate::specs::Turns::granted))]
-pub fn granted(width: usize, picks: usize, start: usize, requests: &[u8], station: usize) -> bool
-    ensures { result ≡ Turns.granted width picks start requests.now station }
-{
-    start < width
-        && station < width
-        && asks(requests, station)
-        && nearer(width, start, requests, station) < picks
-}
-
-// A station's count: how many that ask are nearer to `start`, `picks` at the most.
-#[tactic(auto, unfolding(crate::specs::Turns::ahead))]
-pub fn ahead(width: usize, picks: usize, start: usize, requests: &[u8], station: usize) -> usize
-    ensures { result ≡ Turns.ahead width picks start requests.now station }
-{
-    picks.min(nearer(width, start, requests, station))
-}
-
-// How many a cycle grants: `picks`, or all that ask if these are fewer.
-#[tactic(auto, unfolding(crate::specs::Turns::count))]
-pub fn count(width: usize, picks: usize, requests: &[u8]) -> usize
-    ensures { result ≡ Turns.count width picks requests.now }
-{
-    picks.min(asking(requests, 0, width))
-}
-
-// The next head: one past the granted station that is farthest from the head, or from 0 where there is no head. If no one is
-// granted a head stays, and no head becomes the last station.
-#[tactic(auto, unfolding(crate::specs::Turns::next, crate::specs::Turns::idle))]
-pub fn next(width: usize, picks: usize, head: Option<usize>, requests: &[u8]) -> usize
-    ensures { result ≡ Turns.next width picks head requests.now }
-{
-    let start = head.unwrap_or(0);
-    match reach(width, picks, start, requests) {
-        0 => head.unwrap_or(width.saturating_sub(1)),
-        far => away(width, start, far),
-    }
-}
-
-// The next token: one past the token if someone asks and the grant is acknowledged. Else, and where the token is no station, it
-// is the same token.
-#[tactic(auto, unfolding(crate::specs::Turns::next_token))]
-pub fn next_token(width: usize, token: usize, requests: &[u8], acknowledged: bool) -> usize
-    ensures { result ≡ Turns.next_token width token requests.now acknowledged }
-{
-    if asking(requests, 0, width) > 0 && acknowledged {
-        away(width, token, 1)
-    } else {
-        token
-    }
-}
-
-// The value of a tree node over the stations from `from` up to `to`: 2 if the head is among them, and 1 more if one of them asks.
-// If the head is among them, those before it do not count.
-#[tactic(auto, unfolding(crate::specs::Turns::node, crate::specs::Turns::some))]
-pub fn node(head: Option<usize>, requests: &[u8], from: usize, to: usize) -> u8
-    ensures { result ≡ Turns.node head requests.now from to }
-{
-    match head {
-        Some(head) if (from..to).contains(&head) => 2 + u8::from(asking(requests, head, to) > 0),
-        _ => u8::from(asking(requests, from, to) > 0),
-    }
-}
-
-// The station that is `far` away from `start`: `start` itself where that is no station.
-#[tactic(auto, unfolding(crate::specs::Turns::away))]
-fn away(width: usize, start: usize, far: usize) -> usize
-    ensures { result ≡ Turns.away width start far }
-{
-    if width <= start {
-        start
-    } else if far < width - start {
-        start + far
-    } else {
-        far - (width - start)
-    }
-}
-
-// How far the grants reach: one more than the greatest distance of a granted station, or 0 where no one is granted.
-#[tactic(auto, unfolding(crate::specs::Turns::reach))]
-fn reach(width: usize, picks: usize, start: usize, requests: &[u8]) -> usize
-    ensures { result ≡ Turns.reach width picks start requests.now }
-{
-    (0..width).fold(
-        0,
-        |most, i| most.max(extent(width, picks, start, requests, i)),
-    )
-}
-
-// How far a station's grant reaches: one more than its distance, or 0 where it is not granted. As a number it is ordered as it should
-// be, so the farthest is the greatest.
-#[tactic(auto, using(crate::specs::Turns::Laws::distance_le), unfolding(crate::specs::Turns::extent))]
-fn extent(width: usize, picks: usize, start: usize, requests: &[u8], station: usize) -> usize
-    ensures { result ≡ Turns.extent width picks start requests.now station }
-{
-    if granted(width, picks, start, requests, station) {
-        distance(width, start, station) + 1
-    } else {
-        0
+        right - (width - left)
     }
 }

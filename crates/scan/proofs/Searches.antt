@@ -8,7 +8,7 @@ use native.Mathlib.Omega.{arith}
 use lib.Dec.{eqb}
 use lib.ListN.{length, take}
 use lib.Seq.{length-take-le, get_or-take}
-use Rattle.std.specs.Prelude.{None, Some}
+use Rattle.std.specs.Prelude.{Option, None, Some}
 use Rattle.arbiter.specs.Decisions.{requested}
 use Rattle.arbiter.specs.Places.{ones, first}
 use Rattle.arbiter.specs.Places.Laws as Places
@@ -44,3 +44,8 @@ module _ (requests : List ℕ) (from to : ℕ) (room : to ≤ length requests) w
   nobody e k l u =
       let free = Places.free_of {test = λ b. eqb b 1} {from = from} {bytes = take to requests} (Places.first_none _ e) in
       sym (below k u) ∙ free.at k l (omega (arith, long))
+
+-- the station found is below the limit
+pub found_high : (requests : List ℕ) (from to : ℕ) {w : ℕ} {r : Option ℕ} → r ≡ first (ones from (take to requests)) → r ≡ Some w
+    → to ≤ length requests → w < to
+found_high requests from to {w} e f room = (found requests from to room w (sym e ∙ f)).high

@@ -6,7 +6,7 @@ ghost use Rattle.rules.specs.Walk.{Ran};
 ghost use Rattle.arbiter.specs.Decisions.{requested};
 ghost use Rattle.arbiter.specs.Questions as Questions;
 
-use arbiter::engine::{Arbiter, RoundRobin};
+use arbiter::engine::{Arbiter, RoundRobin, ServedCycle};
 use arbiter::question::{self, Verdict};
 use arbiter::search::first_one;
 use arbiter::{Decision, State, decide, first_station};
@@ -16,12 +16,11 @@ use rules::Head;
 #[derive(Clone, Copy)]
 pub struct Scan(pub State);
 
-// How far a walk has come: how many it has granted, and whom it granted last. The last says nothing while the count is 0: an Option of
-// both would be taken apart at each grant and at the end.
+// How far a walk has come: how many it has granted, and whom it granted last.
 #[derive(Clone, Copy)]
 struct Walk {
     count: usize,
-    last: usize,
+    last: Option<usize>,
 }
 
 impl Arbiter for Scan {
@@ -41,24 +40,31 @@ impl Arbiter for Scan {
 
 impl RoundRobin for Scan {
     // Walks the stations once round: from the head to the last, and then from 0 up to the head.
-    fn grant(
-        width: usize,
-        picks: usize,
-        head: Head,
-        requests: &[u8],
-        grants: &mut [u8],
-    ) -> Decision {
-        grants.fill(0);
-        let first = first_station(head);
-        let begun = Walk { count: 0, last: 0 };
-        let half = walk_run(picks, requests, grants, first, width, begun);
-        let walk = walk_run(picks, requests, grants, 0, first, half);
-        decide(width, head, walk.count, walk.last)
+    fn grant(cycle: &mut ServedCycle<'_>) -> Decision {
+        let width = cycle.requests.len();
+        cycle.grants.fill(0);
+        let first = first_station(cycle.head);
+        let begun = Walk {
+            count: 0,
+            last: None,
+        };
+        let half = walk_run(
+            cycle.picks,
+            cycle.requests,
+            cycle.grants,
+            first,
+            width,
+            begun,
+        );
+        let walk = walk_run(cycle.picks, cycle.requests, cycle.grants, 0, first, half);
+        decide(width, cycle.head, walk.count, walk.last)
     }
 }
 
 // Grants those that ask of the stations from `from` up to `to`, in that order, until the picks are used up: it searches for one
-// after the other. `walk` is how far the walk has come before, and the result how far it has come then.
+// after the other, each from behind the station found last, so no range counts `i`. `walk` is how far the walk has come before, and the
+// result how far it has come then. A run takes the buffers and not the cycle, of which it would have to promise what stays.
+#[tactic(auto, using(crate::proofs::Searches::found_high))]
 fn walk_run(
     picks: usize,
     requests: &[u8],
@@ -83,7 +89,7 @@ fn walk_run(
         grants[station] = 1;
         walk = Walk {
             count: count + 1,
-            last: station,
+            last: Some(station),
         };
         i = station + 1;
     }

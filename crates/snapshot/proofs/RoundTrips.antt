@@ -164,19 +164,13 @@ short_read_alike bytes byte short z =
     ∙ read_saved (made f.width f.picks (head_of f)) k.allows
     ∙ sym k.read
 
--- two calls whose questions say the same number answer with the same number and the same state
-opened_alike : (v w : Verdict) (n m : ℕ) (h : Head) → number_of v ≡ number_of w
-    → (number (opened v n m h) ≡ number (opened w n m h)) × ((opened v n m h).state ≡ (opened w n m h).state)
-opened_alike (Ok _) (Ok _) n m h e = (refl, refl)
-opened_alike (Ok _) (Err r) n m h e = absurd (Answers.refusal_number r (sym e))
-opened_alike (Err r) (Ok _) n m h e = absurd (Answers.refusal_number r e)
-opened_alike (Err q) (Err r) n m h e = (e, refl)
-
-then_alike : (v w q : Verdict) → number_of v ≡ number_of w → number_of (v then q) ≡ number_of (w then q)
-then_alike (Ok _) (Ok _) q e = refl
-then_alike (Ok _) (Err r) q e = absurd (Answers.refusal_number r (sym e))
-then_alike (Err r) (Ok _) q e = absurd (Answers.refusal_number r e)
-then_alike (Err p) (Err r) q e = e
+-- two openings whose first questions say the same number, and whose further ones are the same, answer with the same number and state
+opened_alike : (v w q : Verdict) (n m : ℕ) (h : Head) → number_of v ≡ number_of w
+    → (number (opened (v then q) n m h) ≡ number (opened (w then q) n m h)) × ((opened (v then q) n m h).state ≡ (opened (w then q) n m h).state)
+opened_alike (Ok _) (Ok _) q n m h e = (refl, refl)
+opened_alike (Ok _) (Err r) q n m h e = absurd (Answers.refusal_number r (sym e))
+opened_alike (Err r) (Ok _) q n m h e = absurd (Answers.refusal_number r e)
+opened_alike (Err p) (Err r) q n m h e = (e, refl)
 
 module _ (a b c d : ℕ) where
   abbrev short : List ℕ
@@ -195,20 +189,16 @@ module _ (a b c d : ℕ) where
   same_mark : number_of (Questions.bits 3 short) ≡ number_of (Questions.bits 5 long)
   same_mark = Lists.split (ltb 1 d) (λ t. rw t) (λ f. rw f)
 
-  module _ (l : a < 256) where
-    -- the questions of either, by the fields of the long one
-    short_asked : questions short ≡ (Questions.bits 3 short then allowed (fields long))
-    short_asked = sym (Saved.asked short l refl) ∙ ap (λ (f : Fields). Questions.bits 3 short then allowed f) same_fields
+  -- the questions of the short one, by the fields of the long one
+  short_asked : a < 256 → questions short ≡ (Questions.bits 3 short then allowed (fields long))
+  short_asked l = sym (Saved.asked short l refl) ∙ ap (λ (f : Fields). Questions.bits 3 short then allowed f) same_fields
 
-    long_asked : questions long ≡ (Questions.bits 5 long then allowed (fields long))
-    unfolding fields
-    long_asked = refl
+  long_asked : questions long ≡ (Questions.bits 5 long then allowed (fields long))
+  unfolding fields
+  long_asked = refl
 
 pub short_lengthened : ShortLengthened
 short_lengthened a b c d l =
     let f = fields (long a b c d) in
-    let alike : number_of (questions (short a b c d)) ≡ number_of (questions (long a b c d)) =
-    ap (λ (v : Verdict). number_of v) (short_asked a b c d l)
-    ∙ then_alike (Questions.bits 3 (short a b c d)) (Questions.bits 5 (long a b c d)) (allowed f) (same_mark a b c d)
-    ∙ ap (λ (v : Verdict). number_of v) (sym (long_asked a b c d l)) in
-    rw (same_fields a b c d) (opened_alike (questions (short a b c d)) (questions (long a b c d)) f.width f.picks (head_of f) alike)
+    rw (same_fields a b c d, short_asked a b c d l, long_asked a b c d)
+    (opened_alike (Questions.bits 3 (short a b c d)) (Questions.bits 5 (long a b c d)) (allowed f) f.width f.picks (head_of f) (same_mark a b c d))

@@ -9,7 +9,7 @@ use Rattle.arbiter.specs.declared.refusal.Refusal.TheVariants.{ReadLength, HeadR
 use Rattle.arbiter.specs.Words.{number}
 use Rattle.arbiter.specs.Questions as Questions
 use Rattle.arbiter.specs.Questions.{Verdict, ◌then◌}
-use Rattle.arbiter.specs.Answers.{Outcome, served, opened, writes}
+use Rattle.arbiter.specs.Answers.{Outcome, made, served, opened, writes}
 use Rattle.snapshot.specs.declared.Fields.{Fields}
 pub mod Laws
 pub mod Known
@@ -95,6 +95,10 @@ short_questions bytes =
 abbrev pub questions : List ℕ → Verdict
 questions bytes =
     read_length (length bytes) then cond (eqb (length bytes) short_size) (short_questions bytes) (long_questions bytes)
+
+-- the state that a snapshot says
+abbrev pub state : Fields → State
+state f = made f.width f.picks (marked f.station f.mark)
 
 -- reading one makes the state of what it says
 abbrev pub read : List ℕ → Answer

@@ -48,27 +48,31 @@ impl Snapshot {
 
     // The state that a snapshot holds. Asks 5, 8 of the last byte, 1, 3 and 4: 3 0 2 1 0 2 is refused by 8 at place 5, and
     // 3 0 2 0 1 0 by 4. The short form 3 2 1 1 gives what 3 0 2 1 0 1 gives, and 3 2 1 2 is refused by 8 at place 3.
-    #[tactic(auto, using(crate::specs::Calls::Laws::read_passed))]
+    #[tactic(auto, using(arbiter::specs::Answers::Laws::opens_then))]
     pub fn read(snapshot: &[u8]) -> Answer
         ensures { result ≡ Calls.read snapshot.now }
     {
-        match readable(snapshot) {
-            Ok(fields) => Answer::opened(Ok(()), fields.width, fields.picks, fields.head()),
-            Err(refusal) => Answer::opened(Err(refusal), 0, 0, None),
-        }
+        Answer::opened(readable(snapshot))
     }
 }
 
 impl Fields {
+    // The state that they say.
+    fn state(self) -> State
+        ensures { result ≡ Calls.state self }
+    {
+        State {
+            width: self.width,
+            picks: self.picks,
+            head: self.head(),
+        }
+    }
+
     // The head that they say.
     fn head(self) -> Head
         ensures { result ≡ Calls.marked self.station self.mark }
     {
-        if self.mark == 1 {
-            Some(self.station)
-        } else {
-            None
-        }
+        (self.mark == 1).then_some(self.station)
     }
 
     // The questions about them: 1, 3 and 4, which is also asked of a station without its mark.
@@ -82,6 +86,7 @@ impl Fields {
 
 // The questions of writing a snapshot; where they pass it writes that of a state of these, and the head stays.
 // By the questions the width is at most 1,024 and the picks at most 8, so the casts lose nothing.
+#[tactic(auto, using(arbiter::specs::Questions::Laws::writable))]
 fn save(width: usize, picks: usize, head: Head, snapshot: &mut [u8]) -> Result<Decision, Refusal>
     ensures value { result ≡ (Questions.write width picks head Calls.size (length snapshot.old) then Ok (Decisions.headed head)) }
     ensures snapshot_after { snapshot.new ≡ Answers.if_passed (Questions.write width picks head Calls.size (length snapshot.old)) (Calls.saved (Answers.made width picks head)) (λ _. snapshot.old) }
@@ -100,15 +105,15 @@ fn save(width: usize, picks: usize, head: Head, snapshot: &mut [u8]) -> Result<D
     Ok(headed(head))
 }
 
-// The questions of reading a snapshot, and what it says where they pass. The width of a short form, a byte and one more, always
+// The questions of reading a snapshot, and the state that it says where they pass. The width of a short form, a byte and one more, always
 // passes 1.
-fn readable(snapshot: &[u8]) -> Result<Fields, Refusal>
-    ensures { result ≡ (Calls.questions snapshot.now then Ok (Calls.fields snapshot.now)) }
+fn readable(snapshot: &[u8]) -> Result<State, Refusal>
+    ensures { result ≡ (Calls.questions snapshot.now then Ok (Calls.state (Calls.fields snapshot.now))) }
 {
     let fields = held(snapshot)?;
     question::bits(snapshot.len() - 1, snapshot)?;
     fields.allowed()?;
-    Ok(fields)
+    Ok(fields.state())
 }
 
 // Question 5, and what a snapshot of either form says where it passes.

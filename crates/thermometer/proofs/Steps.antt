@@ -5,6 +5,7 @@ use mathlib.Core.Path.{◌≡◌, sym, ap, ◌∙◌}
 use mathlib.Core.Bool.{Bool, true, not, ◌&&◌}
 use mathlib.Core.List.{List}
 use native.Mathlib.Omega.{arith}
+use Rattle.std.specs.Prelude.{Option, Some}
 use lib.Count.{ones}
 use lib.Dec.{eqb, ltb}
 use lib.ListN.{length, set}
@@ -36,10 +37,10 @@ module _ (m a b : ℕ) (coded : is_code m a ≡ true) (is-bit : b ≤ 1) where
       let asks = eqb-true b 1 both.0 in
       let below = ltb-true (ones a) m both.1 in rw (ne_eqb (add m a b) a (λ e. omega (arith, ones_add, ap ones e))))
 
-  module _ (asks : ℕ → Bool) (from c₀ z₀ : ℕ) (old : List ℕ) (i : ℕ) (at : from ≤ i) (z : ℕ) (new : List ℕ)
+  module _ (asks : ℕ → Bool) (from c₀ : ℕ) (z₀ : Option ℕ) (old : List ℕ) (i : ℕ) (at : from ≤ i) (z : Option ℕ) (new : List ℕ)
       (r : Ran m asks from i c₀ z₀ old (ones a) z new) (is : asks i ≡ eqb b 1) where
     -- the sum is another code: the station is granted
-    pub granted : (add m a b ≡ a → ⊥) → i < length new → Ran m asks from (i + 1) c₀ z₀ old (ones (add m a b)) i (set new i 1)
+    pub granted : (add m a b ≡ a → ⊥) → i < length new → Ran m asks from (i + 1) c₀ z₀ old (ones (add m a b)) (Some i) (set new i 1)
     granted other fits =
         let both = Lists.both _ _ (sym rises ∙ ap not (ne_eqb _ _ other)) in
         let one = eqb-true b 1 both.0 in

@@ -1,6 +1,6 @@
 -- What a run of the walk promises. The promise of the arbiter's calls is arbiter's Cycle.
 -- Assumes nothing.
-use Rattle.std.specs.Prelude.{ℕ, ◌-◌, ◌≡◌, List, map, get_or}
+use Rattle.std.specs.Prelude.{ℕ, ◌-◌, ◌≡◌, List, map, get_or, None}
 use Rattle.std.specs.Int.Count.{ones}
 use Rattle.rules.specs.Lists.{range}
 use Rattle.rules.specs.Thermometer.{input, running}
@@ -10,7 +10,7 @@ use Rattle.thermometer.specs.declared.Walk.{Walk}
 
 -- no walk yet
 abbrev pub begun : Walk
-begun = record { code = 0; last = 0 }
+begun = record { code = 0; last = None }
 
 -- the requests of so many stations from one on, as codes
 abbrev pub asked : ℕ → List ℕ → ℕ → ℕ → List ℕ

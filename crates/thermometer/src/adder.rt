@@ -7,7 +7,8 @@ ghost use Rattle.thermometer.specs.Adder as Adder;
 use arbiter::refusal::Refusal;
 use arbiter::{MAX_PICKS, question};
 
-// A number of picks, from 1 to 8, by its code.
+// A number of picks, from 1 to 8, by its code. That another byte is a code for these picks is asked where that is used: codes stand in
+// buffers, as bytes, and the fact is one about both.
 #[derive(Clone, Copy)]
 pub struct Picks {
     pub code: u8,

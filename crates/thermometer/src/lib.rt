@@ -11,7 +11,7 @@ ghost use Rattle.arbiter.specs.Questions as Questions;
 ghost use Rattle.thermometer.specs.Runs.{Ran};
 
 use adder::Picks;
-use arbiter::engine::{Arbiter, RoundRobin};
+use arbiter::engine::{Arbiter, RoundRobin, ServedCycle};
 use arbiter::question::{self, Verdict};
 use arbiter::{Decision, State, decide, first_station};
 use rules::Head;
@@ -20,11 +20,11 @@ use rules::Head;
 #[derive(Clone, Copy)]
 pub struct Thermometer(pub State);
 
-// How far a walk has come: the code of how many it has counted, and whom it granted last, which says nothing while the code is 0.
+// How far a walk has come: the code of how many it has counted, and whom it granted last.
 #[derive(Clone, Copy)]
 struct Walk {
     code: u8,
-    last: usize,
+    last: Option<usize>,
 }
 
 impl Arbiter for Thermometer {
@@ -44,27 +44,33 @@ impl Arbiter for Thermometer {
 
 impl RoundRobin for Thermometer {
     // Goes once round, from the head to the last station, and then from 0 up to the head: what it has counted then is the number
-    // of grants. It stands beside the scan's, which is like it: a theorem reads its two runs off this code by name.
-    fn grant(
-        width: usize,
-        picks: usize,
-        head: Head,
-        requests: &[u8],
-        grants: &mut [u8],
-    ) -> Decision {
-        grants.fill(0);
-        let first = first_station(head);
-        let begun = Walk { code: 0, last: 0 };
-        let half = count_run(picks, requests, grants, first, width, begun);
-        let walk = count_run(picks, requests, grants, 0, first, half);
+    // of grants. It stands beside the scan's, which is like it: the theorem `two_runs` reads off this code that there are two runs, by
+    // the name of the run, of which `one_step` says what a turn is. Of a run that is a parameter it could say neither.
+    fn grant(cycle: &mut ServedCycle<'_>) -> Decision {
+        let width = cycle.requests.len();
+        cycle.grants.fill(0);
+        let first = first_station(cycle.head);
+        let begun = Walk {
+            code: 0,
+            last: None,
+        };
+        let half = count_run(
+            cycle.picks,
+            cycle.requests,
+            cycle.grants,
+            first,
+            width,
+            begun,
+        );
+        let walk = count_run(cycle.picks, cycle.requests, cycle.grants, 0, first, half);
         let count = adder::count(walk.code);
-        decide(width, head, count, walk.last)
+        decide(width, cycle.head, count, walk.last)
     }
 }
 
 // Goes along the stations from `from` up to `to`, one adder step for each: a station is granted if the count rises, which it does
 // if the station asks and the count before it is below the picks. `walk` is how far the walk has come before, and the result how
-// far it has come then.
+// far it has come then. A run takes the buffers and not the cycle, of which it would have to promise what stays.
 #[tactic(auto, using(rules::proofs::Thermometer::Laws::full_is_code, rules::proofs::Thermometer::Laws::full_ones))]
 fn count_run(
     picks: usize,
@@ -93,7 +99,7 @@ fn count_run(
         if sum != walk.code {
             grants[i] = 1;
             walk.code = sum;
-            walk.last = i;
+            walk.last = Some(i);
         }
     }
     walk

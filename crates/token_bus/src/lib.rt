@@ -14,7 +14,7 @@ ghost use Rattle.arbiter.specs.Places.{highest};
 ghost use Rattle.arbiter.specs.Questions.{◌then◌};
 ghost use Rattle.token_bus.specs.Calls as Calls;
 
-use arbiter::engine::Arbiter;
+use arbiter::engine::{Arbiter, ServedCycle};
 use arbiter::question::Verdict;
 use arbiter::refusal::Refusal;
 use arbiter::search::first_one;
@@ -55,7 +55,8 @@ impl TokenBus {
     }
 }
 
-// The questions of a cycle, and what it decides where they pass.
+// The questions of a cycle, and what it decides where they pass. Where the highest byte of the requests is 0 nobody asks, and the token
+// stays.
 #[tactic(auto, using(crate::specs::Calls::Laws::allowed))]
 fn arbitrate(
     width: usize,
@@ -71,49 +72,45 @@ fn arbitrate(
     question::state(width, picks, head)?;
     let high = arbiter::question::cycle(width, requests, grants.len())?;
     question::acknowledge(acknowledge)?;
-    grants.fill(0);
-    let token = first_station(head);
-    Ok(grant(width, token, requests, high, grants, acknowledge == 1))
+    if high == 0 {
+        grants.fill(0);
+        return Ok(headed(head));
+    }
+    let mut cycle = ServedCycle {
+        picks,
+        head,
+        requests,
+        grants,
+    };
+    Ok(grant(&mut cycle, acknowledge == 1))
 }
 
-// A cycle that no question refuses, with a grant buffer that is all 0. `high` is the highest byte of the requests.
+// Writes the grant of a cycle, and says what it decides: the token stays where nobody is granted.
 #[tactic(auto, using(crate::specs::Calls::Laws::idle_decides, crate::specs::Calls::Laws::idle_grants, crate::specs::Calls::Laws::granted_decides, crate::specs::Calls::Laws::granted_grants))]
-fn grant(
-    width: usize,
-    token: usize,
-    requests: &[u8],
-    high: u8,
-    grants: &mut [u8],
-    acknowledged: bool,
-) -> Decision
-    requires token_lt_width { token < width }
-    requires requests_len { length requests.now ≡ width }
-    requires high_value { high ≡ highest requests.now }
-    requires grants_value { grants.old ≡ replicate width 0 }
-    ensures value { result ≡ Calls.decision width token acknowledged (requested requests.now) }
-    ensures grants_after { grants.new ≡ Bus.grants width token (requested requests.now) }
+fn grant(cycle: &mut ServedCycle<'_>, acknowledged: bool) -> Decision
+    ensures value { result ≡ Calls.decision (length cycle.old.requests.now) (start cycle.old.head) acknowledged (requested cycle.old.requests.now) }
+    ensures same_reference { cycle.new.grants.ghost_name ≡ cycle.old.grants.ghost_name }
+    ensures grants_after { cycle.new.grants.now ≡ Bus.grants (length cycle.old.requests.now) (start cycle.old.head) (requested cycle.old.requests.now) }
 {
-    let Some(station) = first_request(token, requests, high) else {
+    let width = cycle.requests.len();
+    cycle.grants.fill(0);
+    let token = first_station(cycle.head);
+    let Some(station) = first_request(token, cycle.requests) else {
         return headed(Some(token));
     };
-    grants[station] = 1;
+    cycle.grants[station] = 1;
     Decision {
         count: 1,
         next: Some(pass(width, token, acknowledged)),
     }
 }
 
-// The first station that asks in the order from the token, or none. Where the highest byte is 0 there is none; where none from the
-// token to the last asks, it is the first that asks at all.
-#[tactic(auto, using(crate::specs::Calls::Laws::found_none))]
-fn first_request(token: usize, requests: &[u8], high: u8) -> Option<usize>
+// The first station that asks in the order from the token, or none. Where none from the token to the last asks, it is the first that
+// asks at all.
+fn first_request(token: usize, requests: &[u8]) -> Option<usize>
     requires token_in_bounds { token < length requests.now }
-    requires high_value { high ≡ highest requests.now }
     ensures { result ≡ Places.first (Bus.granted (length requests.now) token (requested requests.now)) }
 {
-    if high == 0 {
-        return None;
-    }
     first_one(token, requests).or_else(|| first_one(0, requests))
 }
 

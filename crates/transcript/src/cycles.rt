@@ -58,7 +58,7 @@ impl Progress {
     }
 
     // One cycle line: runs it and writes what it prints.
-    #[tactic(auto, using(crate::proofs::Zeros::again, crate::specs::Cycles::Laws::cycle_printable), unfolding(crate::specs::Cycles::printed))]
+    #[tactic(auto, using(std::proofs::lemmas::List::take_at, crate::specs::Cycles::Laws::cycle_printable), unfolding(crate::specs::Cycles::printed))]
     fn print_line(self, line: &[u8], out: &mut Output) -> Progress
         requires number_bound { self.number ≤ Text.max_input + 1 }
         ensures written { Written out.old (Cycles.printed self.number (Cycles.cycle self.kind self.state line.now)) out.new }
@@ -79,52 +79,31 @@ impl Progress {
         }
     }
 
-    // The cycle of one line, with a grant buffer of zeros.
-    #[tactic(auto, using(crate::proofs::Zeros::again, crate::specs::Cycles::Laws::formed_long), unfolding(crate::specs::Cycles::cycle))]
+    // The cycle of one line, with a grant buffer of zeros. Question 5 lets a line pass that has as many characters as there are
+    // stations; on the bus, a space and the acknowledge character after them. Only the tree asks about the node buffer.
+    #[tactic(auto, unfolding(crate::specs::Cycles::cycle))]
     fn cycle(self, line: &[u8], grants: &mut [u8]) -> Answer
         requires { grants.old ≡ replicate self.state.width 0 }
         ensures value { result ≡ (Cycles.cycle self.kind self.state line.now).answer }
         ensures grants_after { grants.new ≡ (Cycles.cycle self.kind self.state line.now).written }
     {
-        let width = self.state.width;
-        if !self.well_formed(line) {
-            return self.state.answer(Err(Refusal::ReadLength));
-        }
-        let mut requests = [0u8; MAX_WIDTH];
-        read_wires(&line[..width], &mut requests[..width]);
-        self.call(line, &requests[..width], grants)
-    }
-
-    // The call of what runs, with these requests. Only the tree asks about the node buffer. On the bus the line's last character is the
-    // acknowledge byte.
-    fn call(self, line: &[u8], requests: &[u8], grants: &mut [u8]) -> Answer
-        requires line_value { Cycles.well_formed self.kind self.state.width line.now ≡ true }
-        requires grants_value { grants.old ≡ replicate self.state.width 0 }
-        ensures value { result ≡ (Cycles.called self.kind self.state requests.now (Cycles.wire (get_or line.now (self.state.width + 1) 0))).answer }
-        ensures grants_after { grants.new ≡ (Cycles.called self.kind self.state requests.now (Cycles.wire (get_or line.now (self.state.width + 1) 0))).written }
-    {
         let s = self.state;
-        match self.kind {
-            Kind::RoundRobin(engine) => {
+        let Some((stations, rest)) = line.split_at_checked(s.width) else {
+            return s.answer(Err(Refusal::ReadLength));
+        };
+        let mut requests = [0u8; MAX_WIDTH];
+        let requests = &mut requests[..s.width];
+        read_wires(stations, requests);
+        match (self.kind, rest) {
+            (Kind::RoundRobin(engine), []) => {
                 let mut nodes = [0; 2 * MAX_WIDTH];
                 let end = 2 * s.width;
                 Dispatch(s).cycle(engine, requests, grants, &mut nodes[..end])
             }
-            Kind::TokenBus => {
-                let last = s.width + 1;
-                TokenBus(s).cycle(requests, grants, wire(line[last]))
+            (Kind::TokenBus, [b' ', acknowledge]) => {
+                TokenBus(s).cycle(requests, grants, wire(*acknowledge))
             }
-        }
-    }
-
-    // Whether question 5 lets a line pass: as many characters as there are stations; on the bus, a space and one more after them.
-    fn well_formed(self, line: &[u8]) -> bool
-        ensures { result ≡ Cycles.well_formed self.kind self.state.width line.now }
-    {
-        let width = self.state.width;
-        match self.kind {
-            Kind::RoundRobin(_) => line.len() == width,
-            Kind::TokenBus => line.len() == width + 2 && line[width] == b' ',
+            _ => s.answer(Err(Refusal::ReadLength)),
         }
     }
 }

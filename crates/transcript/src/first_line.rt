@@ -28,12 +28,9 @@ pub struct FirstLine {
 pub(crate) fn read(line: &[u8]) -> Option<FirstLine>
     ensures { result ≡ Spec.first_line line.now }
 {
-    let [letter, gap, numbers @ ..] = line else {
+    let [letter, b' ', numbers @ ..] = line else {
         return None;
     };
-    if *gap != b' ' {
-        return None;
-    }
     let end = find(b' ', numbers)?;
     let kind = named(*letter)?;
     let width = read_number(&numbers[..end])?;

@@ -14,8 +14,5 @@ pub(crate) fn find(byte: u8, text: &[u8]) -> Option<usize>
 pub(crate) fn unended(input: &[u8]) -> &[u8]
     ensures { result.now ≡ Lines.unended input.now }
 {
-    let Some((last, rest)) = input.split_last() else {
-        return input;
-    };
-    if *last == b'\n' { rest } else { input }
+    input.strip_suffix(b"\n").unwrap_or(input)
 }

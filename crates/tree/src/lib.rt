@@ -15,7 +15,7 @@ ghost use Rattle.arbiter.specs.Questions.{◌then◌};
 ghost use Rattle.tree.specs.Calls as Calls;
 ghost use Rattle.tree.specs.Steps as Steps;
 
-use arbiter::engine::Arbiter;
+use arbiter::engine::{Arbiter, ServedCycle};
 use arbiter::question::Verdict;
 use arbiter::refusal::Refusal;
 use arbiter::{Answer, Decision, State, decide, idle};
@@ -72,28 +72,35 @@ fn arbitrate(
     ensures nodes_after { nodes.new ≡ Answers.if_passed (Calls.questions width picks head requests.now (length grants.old) (length nodes.old)) (Rule.nodes width head (requested requests.now)) (λ _. nodes.old) }
 {
     question::cycle(width, picks, head, requests, grants.len(), nodes.len())?;
-    grants.fill(0);
+    let mut cycle = ServedCycle {
+        picks,
+        head,
+        requests,
+        grants,
+    };
     let mut tree = Nodes {
         width,
         bytes: nodes,
     };
-    tree.build(head, requests);
-    Ok(grant(&tree, head, grants))
+    tree.build(&cycle);
+    Ok(grant(&tree, &mut cycle))
 }
 
-// Grants the station that the descent reaches, if it asks. The grant buffer is all 0 before.
+// Grants the station that the descent reaches, if it asks.
 #[tactic(auto, using(rules::proofs::Tree::Laws::reached_station, crate::specs::Steps::Laws::descended_none, crate::specs::Steps::Laws::grants_one, crate::specs::Steps::Laws::grants_none))]
-fn grant(tree: &Nodes, head: Head, grants: &mut [u8]) -> Decision
+fn grant(tree: &Nodes, cycle: &mut ServedCycle<'_>) -> Decision
+    requires width_value { tree.now.width ≡ length cycle.old.requests.now }
     requires values { Steps.Values tree.now.width tree.now.bytes.now }
-    requires grants_value { grants.old ≡ replicate tree.now.width 0 }
-    ensures value { result ≡ Steps.descended tree.now.width head tree.now.bytes.now }
-    ensures grants_after { grants.new ≡ Rule.grants tree.now.width tree.now.bytes.now }
+    ensures value { result ≡ Steps.descended tree.now.width cycle.old.head tree.now.bytes.now }
+    ensures same_reference { cycle.new.grants.ghost_name ≡ cycle.old.grants.ghost_name }
+    ensures grants_after { cycle.new.grants.now ≡ Rule.grants tree.now.width tree.now.bytes.now }
 {
+    cycle.grants.fill(0);
     let station = tree.reached();
     let leaf = tree.width + station;
     if nodes::s0(tree.bytes[leaf]) {
-        grants[station] = 1;
-        return decide(tree.width, head, 1, station);
+        cycle.grants[station] = 1;
+        return decide(tree.width, cycle.head, 1, Some(station));
     }
-    idle(tree.width, head)
+    idle(tree.width, cycle.head)
 }

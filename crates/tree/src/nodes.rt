@@ -8,7 +8,7 @@ ghost use Rattle.arbiter.specs.Decisions.{requested};
 ghost use Rattle.arbiter.specs.Places.{Bits};
 ghost use Rattle.tree.specs.Steps as Steps;
 
-use rules::Head;
+use arbiter::engine::ServedCycle;
 
 // No more pairs than these are joined at once, so that the array of them stays small.
 const MAX_PAIRS: usize = 128;
@@ -16,7 +16,8 @@ const MAX_PAIRS: usize = 128;
 // No more nodes than these are joined one by one.
 const FEW_NODES: usize = 16;
 
-// A node buffer for `width` stations.
+// A node buffer for `width` stations. The width stands beside the buffer, since as half a length every clause would divide. That a byte
+// is a node's value, below 4, is asked where it is used: the bytes are the caller's, and few are values before the tree is built.
 #[derive(Drop)]
 pub(crate) struct Nodes<'a> {
     pub(crate) width: usize,
@@ -28,15 +29,13 @@ pub(crate) struct Nodes<'a> {
 impl Nodes<'_> {
     // Writes the tree of these requests and the head.
     #[tactic(auto, using(crate::proofs::Buffer::leaves_low, crate::proofs::Buffer::written), unfolding(rules::specs::Tree::nodes))]
-    pub(crate) fn build(&mut self, head: Head, requests: &[u8])
-        requires head_bound { start head < self.old.width }
-        requires requests_len { length requests.now ≡ self.old.width }
-        requires bits { Bits requests.now }
+    pub(crate) fn build(&mut self, cycle: &ServedCycle<'_>)
+        requires { length cycle.now.requests.now ≡ self.old.width }
         ensures same_width { self.new.width ≡ self.old.width }
         ensures same_reference { self.new.bytes.ghost_name ≡ self.old.bytes.ghost_name }
-        ensures bytes_after { self.new.bytes.now ≡ Rule.nodes self.old.width head (requested requests.now) }
+        ensures bytes_after { self.new.bytes.now ≡ Rule.nodes self.old.width cycle.now.head (requested cycle.now.requests.now) }
     {
-        write_stations(head, requests, &mut self.bytes[self.width..]);
+        write_stations(cycle, &mut self.bytes[self.width..]);
         self.join_all();
     }
 
@@ -82,19 +81,18 @@ impl Nodes<'_> {
 
 // Writes the stations' nodes: each its request as S0, and the head's S1.
 #[tactic(auto, using(rules::proofs::RoundRobin::Laws::start_at, crate::proofs::Buffer::marked_none, crate::proofs::Buffer::marked_at))]
-fn write_stations(head: Head, requests: &[u8], stations: &mut [u8])
-    requires head_bound { start head < length requests.now }
-    requires bits { Bits requests.now }
-    requires stations_len { length stations.old ≡ length requests.now }
-    ensures { stations.new ≡ map (Rule.leaf head (requested requests.now)) (range 0 (length requests.now)) }
+fn write_stations(cycle: &ServedCycle<'_>, stations: &mut [u8])
+    requires { length stations.old ≡ length cycle.now.requests.now }
+    ensures { stations.new ≡ map (Rule.leaf cycle.now.head (requested cycle.now.requests.now)) (range 0 (length cycle.now.requests.now)) }
 {
-    stations.copy_from_slice(requests);
-    if let Some(h) = head {
+    stations.copy_from_slice(cycle.requests);
+    if let Some(h) = cycle.head {
         stations[h] += 2;
     }
 }
 
-// Reads the children of the nodes from `from` up to `to`, a pair for each: left + 256 × right.
+// Reads the children of the nodes from `from` up to `to`, a pair for each: left + 256 × right. By index, as the next, since what is
+// written through `zip` or `enumerate` a proof knows by its length alone.
 fn read_pairs(from: usize, to: usize, nodes: &[u8], pairs: &mut [u16; MAX_PAIRS])
     requires to_bound { to ≤ from + Steps.max_pairs }
     requires to_in_bounds { 2 * to ≤ length nodes.now }

@@ -102,77 +102,95 @@ pub(crate) fn byte(n: usize) -> u8 {
 #[derive(Clone, Copy)]
 pub struct Saved {
     bytes: &'static [u8],
-    width: usize,
-    picks: usize,
-    head: Option<usize>,
+    state: State,
 }
 
 // Five of four bytes, as they were saved when there was no other form, and five of six.
 pub(crate) static SAVED: [Saved; 10] = [
     Saved {
         bytes: &[3, 2, 1, 1],
-        width: 4,
-        picks: 2,
-        head: Some(1),
+        state: State {
+            width: 4,
+            picks: 2,
+            head: Some(1),
+        },
     },
     Saved {
         bytes: &[0, 1, 0, 0],
-        width: 1,
-        picks: 1,
-        head: None,
+        state: State {
+            width: 1,
+            picks: 1,
+            head: None,
+        },
     },
     Saved {
         bytes: &[15, 8, 0, 1],
-        width: 16,
-        picks: 8,
-        head: Some(0),
+        state: State {
+            width: 16,
+            picks: 8,
+            head: Some(0),
+        },
     },
     Saved {
         bytes: &[254, 1, 0, 0],
-        width: 255,
-        picks: 1,
-        head: None,
+        state: State {
+            width: 255,
+            picks: 1,
+            head: None,
+        },
     },
     Saved {
         bytes: &[255, 8, 255, 1],
-        width: 256,
-        picks: 8,
-        head: Some(255),
+        state: State {
+            width: 256,
+            picks: 8,
+            head: Some(255),
+        },
     },
     Saved {
         bytes: &[3, 0, 2, 1, 0, 1],
-        width: 4,
-        picks: 2,
-        head: Some(1),
+        state: State {
+            width: 4,
+            picks: 2,
+            head: Some(1),
+        },
     },
     Saved {
         bytes: &[0, 1, 1, 0, 1, 1],
-        width: 257,
-        picks: 1,
-        head: Some(256),
+        state: State {
+            width: 257,
+            picks: 1,
+            head: Some(256),
+        },
     },
     Saved {
         bytes: &[255, 1, 8, 0, 0, 0],
-        width: 512,
-        picks: 8,
-        head: None,
+        state: State {
+            width: 512,
+            picks: 8,
+            head: None,
+        },
     },
     Saved {
         bytes: &[231, 3, 3, 88, 2, 1],
-        width: 1000,
-        picks: 3,
-        head: Some(600),
+        state: State {
+            width: 1000,
+            picks: 3,
+            head: Some(600),
+        },
     },
     Saved {
         bytes: &[255, 3, 8, 255, 3, 1],
-        width: 1024,
-        picks: 8,
-        head: Some(1023),
+        state: State {
+            width: 1024,
+            picks: 8,
+            head: Some(1023),
+        },
     },
 ];
 
 // Whether one is read as its state, and is what the state is written as, unless it has four bytes: these are read alone.
 pub(crate) fn known(saved: &Saved) -> bool {
-    let s = compare::state(saved.width, saved.picks, saved.head);
-    is_read(s, saved.bytes) && (saved.bytes.len() == 4 || is_written(s, saved.bytes))
+    let Saved { bytes, state } = *saved;
+    is_read(state, bytes) && (bytes.len() == 4 || is_written(state, bytes))
 }

@@ -46,16 +46,18 @@ impl Engine {
         self != Engine::Bus || head.is_some()
     }
 
-    // The most picks that it takes for a width, and 0 where it takes no such width.
+    // Whether it takes such a width, of those up to the widest: the tree only the powers of two above 1.
+    pub(crate) fn takes_width(self, width: usize) -> bool {
+        self != TREE || (width.is_power_of_two() && width > 1)
+    }
+
+    // The most picks that it takes for a width.
     pub(crate) fn most_picks(self, width: usize) -> usize
         ensures { result ≤ 8 }
     {
         match self {
-            Engine::RoundRobin(engines::Engine::Tree) => {
-                usize::from(width.is_power_of_two() && 1 < width && width <= WIDEST)
-            }
+            Engine::RoundRobin(engines::Engine::Tree) | Engine::Bus | Engine::Packed => 1,
             Engine::RoundRobin(_) => width.min(8),
-            Engine::Bus | Engine::Packed => width.min(1),
         }
     }
 

@@ -19,7 +19,7 @@ static OPENINGS: [(usize, usize, Result<(), usize>, Result<(), usize>); 9] = [
 // 9 openings, without a head and at head 0, 6 engines.
 const OPENED: usize = 9 * 2 * 6;
 
-// The openings, then a node buffer, then 4 sums.
+// The openings, then a node buffer, then 4 sums. One number counts through them, since the group prints one line.
 pub(crate) const CASES: usize = OPENED + 1 + 4;
 
 // The case of a number.
@@ -28,7 +28,7 @@ pub(crate) fn case(i: usize) -> Option<bool> {
         return opening(i);
     }
     if i == OPENED {
-        return TURNS.get(EXAMPLE).map(node_buffer);
+        return CYCLES.get(EXAMPLE).map(node_buffer);
     }
     sums::SUMS.get(sums::TRUTH_TABLE + i % 4).map(sums::known)
 }
@@ -47,7 +47,7 @@ fn opening(i: usize) -> Option<bool> {
 
 // A cycle of the tree with 4 stations, one pick and a head: who asks, the node buffer, and the next head.
 #[derive(Clone, Copy)]
-pub struct Turn {
+pub struct KnownCycle {
     head: usize,
     requests: [u8; 4],
     nodes: [u8; 8],
@@ -58,26 +58,26 @@ pub struct Turn {
 pub(crate) const EXAMPLE: usize = 3;
 
 // In the example stations 0, 2 and 3 ask in each cycle. They are granted in turn.
-pub(crate) static TURNS: [Turn; 4] = [
-    Turn {
+pub(crate) static CYCLES: [KnownCycle; 4] = [
+    KnownCycle {
         head: 0,
         requests: [1, 0, 1, 1],
         nodes: [0, 3, 3, 1, 3, 0, 1, 1],
         next: 1,
     },
-    Turn {
+    KnownCycle {
         head: 1,
         requests: [1, 0, 1, 1],
         nodes: [0, 3, 2, 1, 1, 2, 1, 1],
         next: 3,
     },
-    Turn {
+    KnownCycle {
         head: 3,
         requests: [1, 0, 1, 1],
         nodes: [0, 3, 1, 3, 1, 0, 1, 3],
         next: 0,
     },
-    Turn {
+    KnownCycle {
         head: 1,
         requests: [1, 0, 0, 0],
         nodes: [0, 2, 2, 0, 1, 2, 0, 0],
@@ -85,10 +85,10 @@ pub(crate) static TURNS: [Turn; 4] = [
     },
 ];
 
-// Whether the tree turns as the model does, and the model as is known.
-pub(crate) fn node_buffer(turn: &Turn) -> bool {
-    let s = compare::state(4, 1, Some(turn.head));
-    let cycle = model::run(engine::TREE, s, &turn.requests, 0);
-    let noded = model::same_nodes(s, &turn.requests, &turn.nodes);
-    cycle.same && noded && cycle.state.head == Some(turn.next)
+// Whether the tree's cycle is the model's, and the model's is as is known.
+pub(crate) fn node_buffer(cycle: &KnownCycle) -> bool {
+    let s = compare::state(4, 1, Some(cycle.head));
+    let ran = model::run(engine::TREE, s, &cycle.requests, 0);
+    let noded = model::same_nodes(s, &cycle.requests, &cycle.nodes);
+    ran.same && noded && ran.state.head == Some(cycle.next)
 }

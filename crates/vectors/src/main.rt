@@ -26,7 +26,7 @@ use refusals::Call;
 use runs::Run;
 use std::io;
 use tables::{Table, Walk};
-use walk::{items, numbers};
+use walk::numbers;
 
 fn main(rt: HostRuntime) -> io::Result<()> {
     documents(&rt)?;
@@ -53,17 +53,17 @@ fn documents(rt: &impl Print) -> io::Result<()> {
         let mut walk = Walk::new(table);
         numbers(rt, name, tables::CASES, |i| walk.case(i))?;
     }
-    items(
+    numbers(
         rt,
         "tree, worked example of 000",
-        &known::TURNS[..known::EXAMPLE],
-        known::node_buffer,
+        known::EXAMPLE,
+        |i| known::CYCLES.get(i).map(known::node_buffer),
     )?;
-    items(
+    numbers(
         rt,
         "adder, truth table of 001",
-        &sums::SUMS[..sums::TRUTH_TABLE],
-        sums::known,
+        sums::TRUTH_TABLE,
+        |i| sums::SUMS.get(i).map(sums::known),
     )
 }
 
@@ -105,11 +105,11 @@ fn long_runs(rt: &impl Print) -> io::Result<()> {
 
 // The packed scan, beside the plain one.
 fn packed_scan(rt: &impl Print) -> io::Result<()> {
-    items(
+    numbers(
         rt,
         "packed scan, known cycles",
-        &packed::TURNS,
-        packed::known,
+        packed::CYCLES.len(),
+        |i| packed::CYCLES.get(i).map(packed::known),
     )?;
     numbers(
         rt,
@@ -133,11 +133,11 @@ fn adder(rt: &impl Print) -> io::Result<()> {
         sums::CODES,
         sums::code,
     )?;
-    items(
+    numbers(
         rt,
         "running codes, examples of 001",
-        &running::EXAMPLES,
-        running::known,
+        running::EXAMPLES.len(),
+        |i| running::EXAMPLES.get(i).map(running::known),
     )?;
     numbers(
         rt,
@@ -179,10 +179,10 @@ fn converted(rt: &impl Print) -> io::Result<()> {
     numbers(rt, "short snapshot, read", conversions::CASES, |i| {
         conversions::case(i, conversions::SHORT_WIDEST, conversions::short_snapshots)
     })?;
-    items(
+    numbers(
         rt,
         "snapshots of four and six bytes, written down",
-        &conversions::SAVED,
-        conversions::known,
+        conversions::SAVED.len(),
+        |i| conversions::SAVED.get(i).map(conversions::known),
     )
 }

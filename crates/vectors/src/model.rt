@@ -10,24 +10,22 @@ pub struct Cycle {
     pub state: State,
 }
 
-// Runs one cycle that is to be served, on the first of these requests, and compares it; the packed scan's with the plain scan's too.
+// Runs one cycle that is to be served, and compares it; the packed scan's with the plain scan's too.
 pub(crate) fn run(engine: Engine, s: State, requests: &[u8], acknowledge: u8) -> Cycle {
-    let width = s.width.min(WIDEST);
-    let asked = &requests[..width.min(requests.len())];
+    let width = requests.len().min(WIDEST);
     let mut grants = [7u8; WIDEST];
+    let grants = &mut grants[..width];
     let mut nodes = [7u8; NODES];
-    let a = engine.cycle(
-        s,
-        asked,
-        &mut grants[..width],
-        &mut nodes[..2 * width],
-        acknowledge,
-    );
-    let count = reference::count(s.width, s.picks, requests);
-    let next = next_head(engine, s, requests, acknowledge);
-    let same = compare::serves(a, count, compare::state(s.width, s.picks, Some(next)))
-        && same_grants(s, requests, &grants)
-        && (engine != engine::TREE || same_nodes(s, requests, &nodes))
+    let nodes = &mut nodes[..2 * width];
+    let a = engine.cycle(s, requests, grants, nodes, acknowledge);
+    let model = of(s, requests);
+    let next = next_head(engine, &model, acknowledge);
+    let same = compare::serves(
+        a,
+        model.count(),
+        compare::state(s.width, s.picks, Some(next)),
+    ) && same_grants(&model, grants)
+        && (engine != engine::TREE || same_nodes(s, requests, nodes))
         && (engine != Engine::Packed || packed::as_scan(s, requests));
     Cycle {
         same,
@@ -35,70 +33,72 @@ pub(crate) fn run(engine: Engine, s: State, requests: &[u8], acknowledge: u8) ->
     }
 }
 
-// Where the model leaves the head or the token.
-fn next_head(engine: Engine, s: State, requests: &[u8], acknowledge: u8) -> usize {
-    let head = s.head;
-    let station = head.unwrap_or(0);
-    if engine == Engine::Bus {
-        return reference::next_token(s.width, station, requests, acknowledge == 1);
+// The model of a cycle from this state.
+pub(crate) fn of(s: State, requests: &[u8]) -> reference::Cycle<'_> {
+    reference::Cycle {
+        width: s.width,
+        picks: s.picks,
+        head: s.head,
+        requests,
     }
-    reference::next(s.width, s.picks, s.head, requests)
 }
 
-// Whether the first grants are the model's.
-fn same_grants(s: State, requests: &[u8], grants: &[u8]) -> bool {
-    let start = s.head.unwrap_or(0);
-    grants.iter().take(s.width).enumerate().all(|(i, grant)| {
-        *grant == u8::from(reference::granted(s.width, s.picks, start, requests, i))
-    })
+// Where the model leaves the head or the token.
+fn next_head(engine: Engine, model: &reference::Cycle<'_>, acknowledge: u8) -> usize {
+    if engine == Engine::Bus {
+        return model.next_token(acknowledge == 1);
+    }
+    model.next()
 }
 
-// Stations that a node is over.
+// Whether the grants are the model's.
+fn same_grants(model: &reference::Cycle<'_>, grants: &[u8]) -> bool {
+    grants
+        .iter()
+        .enumerate()
+        .all(|(i, grant)| *grant == u8::from(model.granted(i)))
+}
+
+// The subtree of a node, by its stations.
 #[derive(Clone, Copy)]
-struct Below {
+struct Subtree {
     from: usize,
     size: usize,
 }
 
-impl Below {
-    // What the next node is over: the next stations, as many, and after the last half as many from the first on.
-    fn next(self, width: usize) -> Below {
+impl Subtree {
+    // The next node's: of as many stations, the next, and after the last of half as many from the first on.
+    fn next(self, width: usize) -> Subtree {
         if self.to() < width {
-            return Below {
+            return Subtree {
                 from: self.to(),
-                size: self.size,
+                ..self
             };
         }
-        Below {
+        Subtree {
             from: 0,
             size: self.size / 2,
         }
     }
 
-    // One past the last of them.
+    // One past its last station.
     fn to(self) -> usize {
         self.from.saturating_add(self.size)
     }
 }
 
-// Whether the first nodes have the model's values: byte 0 is 0, then level by level from the root.
+// Whether the nodes have the model's values: byte 0 is 0, then level by level from the root.
 pub(crate) fn same_nodes(s: State, requests: &[u8], nodes: &[u8]) -> bool {
-    let head = s.head;
-    let width = s.width.min(WIDEST);
-    let mut below = Below {
+    let model = of(s, requests);
+    let mut subtree = Subtree {
         from: 0,
-        size: width,
+        size: s.width,
     };
-    for node in nodes.iter().take(2 * width).skip(1) {
-        if *node != value(head, requests, below) {
+    for node in nodes.iter().skip(1) {
+        if *node != model.node(subtree.from, subtree.to()) {
             return false;
         }
-        below = below.next(width);
+        subtree = subtree.next(s.width);
     }
     nodes.starts_with(&[0])
-}
-
-// The model's value of a node over these stations.
-fn value(head: Option<usize>, requests: &[u8], below: Below) -> u8 {
-    reference::node(head, requests, below.from, below.to())
 }

@@ -9,7 +9,7 @@ use packed_scan::PackedScan;
 
 // A cycle with one pick, its wires packed, and the next head.
 #[derive(Clone, Copy)]
-pub struct Turn {
+pub struct KnownCycle {
     width: usize,
     head: Option<usize>,
     requests: [u8; 2],
@@ -19,8 +19,8 @@ pub struct Turn {
 }
 
 // The known cycles. In the fourth the only request is in the head's own byte, below the head.
-pub(crate) static TURNS: [Turn; 7] = [
-    Turn {
+pub(crate) static CYCLES: [KnownCycle; 7] = [
+    KnownCycle {
         width: 11,
         head: Some(8),
         requests: [9, 0],
@@ -28,7 +28,7 @@ pub(crate) static TURNS: [Turn; 7] = [
         count: 1,
         next: 1,
     },
-    Turn {
+    KnownCycle {
         width: 11,
         head: Some(1),
         requests: [9, 0],
@@ -36,7 +36,7 @@ pub(crate) static TURNS: [Turn; 7] = [
         count: 1,
         next: 4,
     },
-    Turn {
+    KnownCycle {
         width: 11,
         head: Some(4),
         requests: [9, 4],
@@ -44,7 +44,7 @@ pub(crate) static TURNS: [Turn; 7] = [
         count: 1,
         next: 0,
     },
-    Turn {
+    KnownCycle {
         width: 11,
         head: Some(4),
         requests: [8, 0],
@@ -52,7 +52,7 @@ pub(crate) static TURNS: [Turn; 7] = [
         count: 1,
         next: 4,
     },
-    Turn {
+    KnownCycle {
         width: 12,
         head: None,
         requests: [0, 0],
@@ -60,7 +60,7 @@ pub(crate) static TURNS: [Turn; 7] = [
         count: 0,
         next: 11,
     },
-    Turn {
+    KnownCycle {
         width: 16,
         head: Some(15),
         requests: [128, 128],
@@ -68,7 +68,7 @@ pub(crate) static TURNS: [Turn; 7] = [
         count: 1,
         next: 0,
     },
-    Turn {
+    KnownCycle {
         width: 9,
         head: Some(7),
         requests: [127, 1],
@@ -81,13 +81,13 @@ pub(crate) static TURNS: [Turn; 7] = [
 // The bytes of the widest.
 const BYTES: usize = WIDEST / 8;
 
-// Whether the packed scan turns as is known.
-pub(crate) fn known(turn: &Turn) -> bool {
-    let s = compare::state(turn.width, 1, turn.head);
-    let next = compare::state(turn.width, 1, Some(turn.next));
+// Whether the packed scan's cycle is as is known.
+pub(crate) fn known(cycle: &KnownCycle) -> bool {
+    let s = compare::state(cycle.width, 1, cycle.head);
+    let next = compare::state(cycle.width, 1, Some(cycle.next));
     let mut grants = [7u8; 2];
-    let a = PackedScan(s).cycle(&turn.requests, &mut grants);
-    compare::serves(a, turn.count, next) && grants == turn.grants
+    let a = PackedScan(s).cycle(&cycle.requests, &mut grants);
+    compare::serves(a, cycle.count, next) && grants == cycle.grants
 }
 
 // 4,096 sets of requests, 13 heads, 12 widths.
@@ -102,7 +102,8 @@ pub(crate) fn case(i: usize) -> Option<bool> {
         return None;
     }
     let s = compare::state(width, 1, head);
-    Some(model::run(Engine::Packed, s, &small::spread::<16>(set), 0).same)
+    let requests = small::spread::<16>(set);
+    Some(model::run(Engine::Packed, s, requests.get(..width)?, 0).same)
 }
 
 // How many bytes hold the wires of so many stations.
@@ -116,13 +117,13 @@ pub(crate) fn size(n: usize) -> usize
 pub(crate) fn cycle(s: State, requests: &[u8], grants: &mut [u8]) -> Answer {
     let mut granted = [0u8; BYTES];
     let a = packed_cycle(s, requests, &mut granted);
-    if a.outcome.ok().is_some() {
+    if a.outcome.is_ok() {
         unpack(&granted, grants);
     }
     a
 }
 
-// A cycle on the first of these bytes.
+// A cycle on the first of these bytes: as many as the wires take.
 fn packed_cycle(s: State, requests: &[u8], granted: &mut [u8; BYTES]) -> Answer {
     let size = size(requests.len());
     let mut packed = [0u8; BYTES];
@@ -133,13 +134,11 @@ fn packed_cycle(s: State, requests: &[u8], granted: &mut [u8; BYTES]) -> Answer 
 // Whether the plain scan on the same wires answers and grants the same. All packed bytes are compared, those past the grant buffer
 // too.
 pub(crate) fn as_scan(s: State, requests: &[u8]) -> bool {
-    let n = s.width.min(WIDEST).min(requests.len());
-    let asked = &requests[..n];
     let mut granted = [7u8; BYTES];
-    let a = packed_cycle(s, asked, &mut granted);
+    let a = packed_cycle(s, requests, &mut granted);
     let mut grants = [0u8; WIDEST];
-    let grants = &mut grants[..n];
-    let b = Dispatch(s).cycle(engines::Engine::Scan, asked, grants, &mut [0]);
+    let grants = &mut grants[..requests.len().min(WIDEST)];
+    let b = Dispatch(s).cycle(engines::Engine::Scan, requests, grants, &mut [0]);
     let mut want = [7u8; BYTES];
     pack(grants, &mut want);
     a == b && granted == want

@@ -17,13 +17,13 @@ pub struct Program {
 // An input with an `@` in it, which stands for each of the 256 bytes: sets of bytes and the text that these give, and the text that
 // all others give.
 #[derive(Clone, Copy)]
-pub struct Place<'a> {
+pub struct Template<'a> {
     pub input: &'a str,
     pub sets: &'a [(&'a str, &'a str)],
     pub others: &'a str,
 }
 
-impl<'a> Place<'a> {
+impl<'a> Template<'a> {
     // The text after the first set that has this byte, or else the last.
     fn text(&self, byte: u8) -> &'a str {
         self.sets
@@ -47,17 +47,23 @@ impl Program {
         prints(&mut self.output, input.as_bytes(), text.as_bytes())
     }
 
-    // Whether the input of a place gives its text, with the byte of a number: 256 numbers for each place of the list.
-    pub(crate) fn gives_at(&mut self, list: &[Place<'_>], i: usize) -> Option<bool> {
-        let place = list.get(i / 256)?;
+    // Whether the input of a number in a list gives its text.
+    pub(crate) fn gives_listed(&mut self, list: &[(&str, &str)], i: usize) -> Option<bool> {
+        let (input, text) = list.get(i)?;
+        Some(self.gives(input, text))
+    }
+
+    // Whether the input of a template gives its text, with the byte of a number: 256 numbers for each template of the list.
+    pub(crate) fn gives_filled(&mut self, list: &[Template<'_>], i: usize) -> Option<bool> {
+        let template = list.get(i / 256)?;
         let byte = byte(i);
-        let input = copy(&mut self.input, place.input.as_bytes());
+        let input = copy(&mut self.input, template.input.as_bytes());
         for at in input.iter_mut() {
             if *at == b'@' {
                 *at = byte;
             }
         }
-        Some(prints(&mut self.output, input, place.text(byte).as_bytes()))
+        Some(prints(&mut self.output, input, template.text(byte).as_bytes()))
     }
 
     // Whether an input with zeros after it, of which so many bytes are read, gives this text.
@@ -81,10 +87,9 @@ impl Program {
         let Ok(text) = fs::read(rt, text) else {
             return false;
         };
-        match text.as_slice().strip_prefix(HEADING) {
-            None => false,
-            Some(text) => prints(&mut self.output, input.as_slice(), text),
-        }
+        text.as_slice()
+            .strip_prefix(HEADING)
+            .is_some_and(|text| prints(&mut self.output, input.as_slice(), text))
     }
 }
 

@@ -1,5 +1,6 @@
 // Runs on every width against the model: requests, heads and picks come from a generator, and each cycle starts from the state
 // that the last one left.
+use crate::conversions::byte;
 use crate::engine::{Engine, WIDEST};
 use crate::{compare, model};
 use arbiter::State;
@@ -33,20 +34,20 @@ impl Run {
     // The case of a number. The numbers come in order.
     pub(crate) fn case(&mut self, i: usize) -> Option<bool> {
         let width = width(i / 192 % 272);
-        let most = self.engine.most_picks(width);
-        if most == 0 || (256 < width && 7 < i % 64) {
+        if !self.engine.takes_width(width) || (256 < width && 7 < i % 64) {
             return None;
         }
         if i % 64 == 0 {
-            self.state = self.first(width, most, i % 192 == 0);
+            self.state = self.first(width, i % 192 == 0);
         }
         Some(self.cycle())
     }
 
-    // The state at a run's start. The picks are 1 to `most`. The first run of three has no head, if the engine takes none.
-    fn first(&self, width: usize, most: usize, first_run: bool) -> State {
-        let draw = (self.generator.0 / 256) as usize;
-        let picks = (draw % 8 + 1).min(most);
+    // The state at a run's start. The picks are as many as the engine takes, or fewer. The first run of three has no head, if the
+    // engine takes none.
+    fn first(&self, width: usize, first_run: bool) -> State {
+        let draw = self.generator.0 / 256;
+        let picks = (draw % 8 + 1).min(self.engine.most_picks(width));
         let station = (draw / 8 % WIDEST).min(width.saturating_sub(1));
         let headless = first_run && self.engine.takes(None);
         compare::state(width, picks, (!headless).then_some(station))
@@ -55,10 +56,10 @@ impl Run {
     // One cycle of a run.
     fn cycle(&mut self) -> bool {
         let mut requests = [0u8; WIDEST];
-        self.generator
-            .draw(&mut requests[..self.state.width.min(WIDEST)]);
-        let acknowledge = (self.generator.0 / 512 % 2) as u8;
-        let cycle = model::run(self.engine, self.state, &requests, acknowledge);
+        let requests = &mut requests[..self.state.width.min(WIDEST)];
+        self.generator.draw(requests);
+        let acknowledge = byte(self.generator.0 / 512 % 2);
+        let cycle = model::run(self.engine, self.state, requests, acknowledge);
         self.state = cycle.state;
         cycle.same
     }
@@ -72,14 +73,13 @@ fn width(i: usize) -> usize {
     WIDE[(i - 256) % 16]
 }
 
-// A linear congruence modulo 2 to the 31st, by its last number. What is drawn of it is a part below its modulus, so that a cast
-// loses nothing.
+// A linear congruence modulo 2 to the 31st, by its last number.
 #[derive(Clone, Copy)]
-struct Generator(u64);
+struct Generator(usize);
 
 impl Generator {
     // The next number.
-    fn next(&mut self) -> u64 {
+    fn next(&mut self) -> usize {
         self.0 = (self.0 % 2147483648 * 1103515245 + 12345) % 2147483648;
         self.0
     }

@@ -2,24 +2,36 @@
 use crate::conversions::byte;
 use crate::engine::Engine;
 use crate::{compare, model};
+use arbiter::State;
 
-// 256 sets of requests, 9 heads, 8 picks, 8 widths, 2 acknowledge bytes. Only the bus takes the second of these.
-pub(crate) const CASES: usize = 256 * 9 * 8 * 8 * 2;
+// 256 sets of requests, 9 heads, 8 picks, 8 widths.
+pub(crate) const INPUTS: usize = 256 * 9 * 8 * 8;
+
+// The inputs with 2 acknowledge bytes. Only the bus takes the second of these.
+pub(crate) const CASES: usize = INPUTS * 2;
 
 // The case of a number, by an engine.
 pub(crate) fn case(engine: Engine, i: usize) -> Option<bool> {
+    let (s, requests) = input(i)?;
+    let acknowledge = byte(i / INPUTS % 2);
+    let sized = engine.takes_width(s.width) && s.picks <= engine.most_picks(s.width);
+    if !sized || !engine.takes(s.head) || (acknowledge == 1 && engine != Engine::Bus) {
+        return None;
+    }
+    let requests = requests.get(..s.width)?;
+    Some(model::run(engine, s, requests, acknowledge).same)
+}
+
+// The input of a number: a state, and the requests of 8 stations, of which it has the first. None where they are no input.
+pub(crate) fn input(i: usize) -> Option<(State, [u8; 8])> {
     let set = i % 256;
     let head = head(i / 256 % 9);
     let picks = i / 2304 % 8 + 1;
     let width = i / 18432 % 8 + 1;
-    let acknowledge = byte(i / 147456 % 2);
-    let sized = set < 1 << width && picks <= engine.most_picks(width);
-    let headed = is_within(head, width) && engine.takes(head);
-    if !sized || !headed || (acknowledge == 1 && engine != Engine::Bus) {
+    if 1 << width <= set || width < picks || !is_within(head, width) {
         return None;
     }
-    let s = compare::state(width, picks, head);
-    Some(model::run(engine, s, &spread::<8>(set), acknowledge).same)
+    Some((compare::state(width, picks, head), spread::<8>(set)))
 }
 
 // The heads by number: 0 for none, and then the stations.

@@ -61,8 +61,5 @@ fn modelled(picks: usize, left: u8, right: u8) -> Result<u8, usize> {
     if picks < 1 || 8 < picks {
         return Err(3);
     }
-    if !codes::is_code(picks, left) || !codes::is_code(picks, right) {
-        return Err(13);
-    }
-    Ok(codes::sum(picks, left, right))
+    codes::sum(picks, left, right).ok_or(13)
 }

@@ -21,7 +21,7 @@ const NODES: usize = 3 * 256 * 9;
 // head, and the same without.
 const PLACES: usize = 64;
 
-// The nodes, and then the places, whether each was met.
+// The nodes, and then the places, whether each was met. One number counts through both, since the group prints one line.
 pub(crate) const CASES: usize = NODES + PLACES;
 
 // 000's table 2, for each column. A point is a case that it calls impossible. In the second column it is 002's table II too.

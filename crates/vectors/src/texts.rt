@@ -1,6 +1,6 @@
 // Whole inputs of the program and the texts that they give.
-use crate::program::{Place, Program};
-use crate::walk::{items, numbers};
+use crate::program::{Program, Template};
+use crate::walk::numbers;
 use std::io;
 use std::rt::Files;
 
@@ -83,124 +83,124 @@ static OPENINGS: [(&str, &str); 30] = [
 
 // The lines of the first lines.
 pub(crate) fn first_lines(rt: &impl Print, program: &mut Program) -> io::Result<()> {
-    items(
+    numbers(
         rt,
         "program, first lines that are not readable",
-        &UNREADABLE,
-        |input| program.gives(input, "0 refused 11 0\n"),
+        UNREADABLE.len(),
+        |i| Some(program.gives(UNREADABLE.get(i)?, "0 refused 11 0\n")),
     )?;
-    items(
+    numbers(
         rt,
         "program, openings refused",
-        &OPENINGS,
-        |(input, text)| program.gives(input, text),
+        OPENINGS.len(),
+        |i| program.gives_listed(&OPENINGS, i),
     )?;
     numbers(
         rt,
         "program, every byte at each place of the first line",
         256 * FIRST_LINE.len(),
-        |i| program.gives_at(&FIRST_LINE, i),
+        |i| program.gives_filled(&FIRST_LINE, i),
     )
 }
 
 // Every byte at each place of the first line: before it, its letter, its spaces, its digits, its end.
-static FIRST_LINE: [Place; 20] = [
-    Place {
+static FIRST_LINE: [Template; 20] = [
+    Template {
         input: "@S 4 1\n",
         sets: &[],
         others: "0 refused 11 0\n",
     },
-    Place {
+    Template {
         input: "@ 4 2\n1101\n",
         sets: &[("SP", "1 1100 2\n"), ("TB", "0 refused 3 0\n")],
         others: "0 refused 11 0\n",
     },
-    Place {
+    Template {
         input: "@ 6 1\n",
         sets: &[("T", "0 refused 2 0\n"), ("SPB", "")],
         others: "0 refused 11 0\n",
     },
-    Place {
+    Template {
         input: "S@4 1\n",
         sets: &[(" ", "")],
         others: "0 refused 11 0\n",
     },
-    Place {
+    Template {
         input: "S 4@1\n",
         sets: &[(" ", "")],
         others: "0 refused 11 0\n",
     },
-    Place {
+    Template {
         input: "S @ 1\n",
         sets: &[("123456789", ""), ("0", "0 refused 1 0\n")],
         others: "0 refused 11 0\n",
     },
-    Place {
+    Template {
         input: "S 0@ 1\n",
         sets: &[],
         others: "0 refused 11 0\n",
     },
-    Place {
+    Template {
         input: "S 1@ 1\n",
         sets: &[("0123456789", "")],
         others: "0 refused 11 0\n",
     },
-    Place {
+    Template {
         input: "S 10@ 1\n",
         sets: &[("0123456789", "")],
         others: "0 refused 11 0\n",
     },
-    Place {
+    Template {
         input: "S 102@ 1\n",
         sets: &[("01234", ""), ("56789", "0 refused 1 0\n")],
         others: "0 refused 11 0\n",
     },
-    Place {
+    Template {
         input: "S 100@ 1\n",
         sets: &[("0123456789", "")],
         others: "0 refused 11 0\n",
     },
-    Place {
+    Template {
         input: "S 1000@ 1\n",
         sets: &[],
         others: "0 refused 11 0\n",
     },
-    Place {
+    Template {
         input: "S 9 @\n",
         sets: &[("12345678", ""), ("09", "0 refused 3 0\n")],
         others: "0 refused 11 0\n",
     },
-    Place {
+    Template {
         input: "S 9 0@\n",
         sets: &[("\n", "0 refused 3 0\n")],
         others: "0 refused 11 0\n",
     },
-    Place {
+    Template {
         input: "S 9 1@\n",
         sets: &[("\n", "1 refused 5 0\n"), ("0123456789", "0 refused 3 0\n")],
         others: "0 refused 11 0\n",
     },
-    Place {
+    Template {
         input: "S 9 10@\n",
         sets: &[("\n0123456789", "0 refused 3 0\n")],
         others: "0 refused 11 0\n",
     },
-    Place {
+    Template {
         input: "S 9 100@\n",
         sets: &[("\n0123456789", "0 refused 3 0\n")],
         others: "0 refused 11 0\n",
     },
-    Place {
+    Template {
         input: "S 9 1000@\n",
         sets: &[("\n", "0 refused 3 0\n")],
         others: "0 refused 11 0\n",
     },
-    Place {
+    Template {
         input: "S 4 1@1000\n",
         sets: &[("\n", "1 1000 1\n")],
         others: "0 refused 11 0\n",
     },
-    Place {
+    Template {
         input: "S 4 1@",
         sets: &[("\n", ""), ("0123456789", "0 refused 3 0\n")],
         others: "0 refused 11 0\n",
@@ -277,8 +277,8 @@ static BUS: [(&str, &str); 4] = [
 ];
 
 // Every byte at each place of a cycle line: a station of each engine, the bus's space and acknowledge, the ends of a line.
-static CYCLE_LINE: [Place; 20] = [
-    Place {
+static CYCLE_LINE: [Template; 20] = [
+    Template {
         input: "S 4 1\n@000\n",
         sets: &[
             ("0", "1 0000 3\n"),
@@ -287,7 +287,7 @@ static CYCLE_LINE: [Place; 20] = [
         ],
         others: "1 refused 8 0\n",
     },
-    Place {
+    Template {
         input: "S 4 1\n0@00\n",
         sets: &[
             ("0", "1 0000 3\n"),
@@ -296,7 +296,7 @@ static CYCLE_LINE: [Place; 20] = [
         ],
         others: "1 refused 8 1\n",
     },
-    Place {
+    Template {
         input: "S 4 1\n000@\n",
         sets: &[
             ("0", "1 0000 3\n"),
@@ -305,7 +305,7 @@ static CYCLE_LINE: [Place; 20] = [
         ],
         others: "1 refused 8 3\n",
     },
-    Place {
+    Template {
         input: "T 4 1\n@000\n",
         sets: &[
             ("0", "1 0000 3\n"),
@@ -314,7 +314,7 @@ static CYCLE_LINE: [Place; 20] = [
         ],
         others: "1 refused 8 0\n",
     },
-    Place {
+    Template {
         input: "T 4 1\n0@00\n",
         sets: &[
             ("0", "1 0000 3\n"),
@@ -323,7 +323,7 @@ static CYCLE_LINE: [Place; 20] = [
         ],
         others: "1 refused 8 1\n",
     },
-    Place {
+    Template {
         input: "T 4 1\n000@\n",
         sets: &[
             ("0", "1 0000 3\n"),
@@ -332,7 +332,7 @@ static CYCLE_LINE: [Place; 20] = [
         ],
         others: "1 refused 8 3\n",
     },
-    Place {
+    Template {
         input: "P 4 2\n@000\n",
         sets: &[
             ("0", "1 0000 3\n"),
@@ -341,7 +341,7 @@ static CYCLE_LINE: [Place; 20] = [
         ],
         others: "1 refused 8 0\n",
     },
-    Place {
+    Template {
         input: "P 4 2\n0@00\n",
         sets: &[
             ("0", "1 0000 3\n"),
@@ -350,7 +350,7 @@ static CYCLE_LINE: [Place; 20] = [
         ],
         others: "1 refused 8 1\n",
     },
-    Place {
+    Template {
         input: "P 4 2\n000@\n",
         sets: &[
             ("0", "1 0000 3\n"),
@@ -359,7 +359,7 @@ static CYCLE_LINE: [Place; 20] = [
         ],
         others: "1 refused 8 3\n",
     },
-    Place {
+    Template {
         input: "B 4 1\n@000 1\n",
         sets: &[
             ("0", "1 0000 0\n"),
@@ -368,7 +368,7 @@ static CYCLE_LINE: [Place; 20] = [
         ],
         others: "1 refused 8 0\n",
     },
-    Place {
+    Template {
         input: "B 4 1\n0@00 1\n",
         sets: &[
             ("0", "1 0000 0\n"),
@@ -377,7 +377,7 @@ static CYCLE_LINE: [Place; 20] = [
         ],
         others: "1 refused 8 1\n",
     },
-    Place {
+    Template {
         input: "B 4 1\n000@ 1\n",
         sets: &[
             ("0", "1 0000 0\n"),
@@ -386,7 +386,7 @@ static CYCLE_LINE: [Place; 20] = [
         ],
         others: "1 refused 8 3\n",
     },
-    Place {
+    Template {
         input: "B 4 1\n1000@1\n",
         sets: &[
             (" ", "1 1000 1\n"),
@@ -394,7 +394,7 @@ static CYCLE_LINE: [Place; 20] = [
         ],
         others: "1 refused 5 0\n",
     },
-    Place {
+    Template {
         input: "B 4 1\n1000 @\n",
         sets: &[
             ("0", "1 1000 0\n"),
@@ -403,27 +403,27 @@ static CYCLE_LINE: [Place; 20] = [
         ],
         others: "1 refused 9 0\n",
     },
-    Place {
+    Template {
         input: "S 4 1\n1000@0100\n",
         sets: &[("\n", "1 1000 1\n2 0100 2\n")],
         others: "1 refused 5 0\n",
     },
-    Place {
+    Template {
         input: "B 4 1\n1000 1@0100 1\n",
         sets: &[("\n", "1 1000 1\n2 0100 2\n")],
         others: "1 refused 5 0\n",
     },
-    Place {
+    Template {
         input: "S 4 1\n1000@",
         sets: &[("\n", "1 1000 1\n")],
         others: "1 refused 5 0\n",
     },
-    Place {
+    Template {
         input: "B 4 1\n1000 1@",
         sets: &[("\n", "1 1000 1\n")],
         others: "1 refused 5 0\n",
     },
-    Place {
+    Template {
         input: "S 1 1\n@\n",
         sets: &[
             ("0", "1 0 0\n"),
@@ -432,7 +432,7 @@ static CYCLE_LINE: [Place; 20] = [
         ],
         others: "1 refused 8 0\n",
     },
-    Place {
+    Template {
         input: "S 1 1\n@",
         sets: &[
             ("0", "1 0 0\n"),
@@ -445,29 +445,18 @@ static CYCLE_LINE: [Place; 20] = [
 
 // The lines of the cycle lines.
 pub(crate) fn cycle_lines(rt: &impl Print, program: &mut Program) -> io::Result<()> {
-    items(
-        rt,
-        "program, cycle lines",
-        &SERVED,
-        |(input, text)| program.gives(input, text),
-    )?;
-    items(
-        rt,
-        "program, refused lines and line ends",
-        &REFUSED,
-        |(input, text)| program.gives(input, text),
-    )?;
-    items(
-        rt,
-        "program, bus lines",
-        &BUS,
-        |(input, text)| program.gives(input, text),
-    )?;
+    for (name, list) in [
+        ("program, cycle lines", SERVED.as_slice()),
+        ("program, refused lines and line ends", REFUSED.as_slice()),
+        ("program, bus lines", BUS.as_slice()),
+    ] {
+        numbers(rt, name, list.len(), |i| program.gives_listed(list, i))?;
+    }
     numbers(
         rt,
         "program, every byte at each place of a cycle line",
         256 * CYCLE_LINE.len(),
-        |i| program.gives_at(&CYCLE_LINE, i),
+        |i| program.gives_filled(&CYCLE_LINE, i),
     )
 }
 
@@ -501,16 +490,12 @@ pub(crate) fn long_inputs(
     rt: &(impl Print + Files + AllocGlobal),
     program: &mut Program,
 ) -> io::Result<()> {
-    items(
-        rt,
-        "program, 65536 and 65537 bytes",
-        &LONG,
-        |(input, length, text)| program.gives_long(input, *length, text),
-    )?;
-    items(
-        rt,
-        "program, examples in files",
-        &FILES,
-        |(input, text)| program.gives_file(rt, input, text),
-    )
+    numbers(rt, "program, 65536 and 65537 bytes", LONG.len(), |i| {
+        let (input, length, text) = LONG.get(i)?;
+        Some(program.gives_long(input, *length, text))
+    })?;
+    numbers(rt, "program, examples in files", FILES.len(), |i| {
+        let (input, text) = FILES.get(i)?;
+        Some(program.gives_file(rt, input, text))
+    })
 }

@@ -10,7 +10,7 @@ use Rattle.arbiter.specs.declared.refusal.Refusal.{Refusal}
 use Rattle.arbiter.specs.declared.refusal.Refusal.TheVariants.{Width, TreeWidth, Picks, HeadRange, ReadLength, WriteLength, NodesLength, NotABit, Acknowledge, SecondOne, FirstLine, InputLength, Code, UnusedBit}
 use Rattle.arbiter.specs.Questions.{Verdict, passed, ◌then◌}
 use Rattle.arbiter.specs.Refusals as Refusals
-use Rattle.arbiter.specs.Answers.{Outcome, number, decided, answered, if_passed, opened, writes}
+use Rattle.arbiter.specs.Answers.{Outcome, number, made, decided, answered, if_passed, opens, opened, writes}
 
 -- no refusal has the number of a served call
 pub refusal_number : (refusal : Refusal) → Refusals.number refusal ≡ 0 → ⊥
@@ -56,6 +56,11 @@ writes_refused (Ok _) s answer target former z n = absurd (n z)
 writes_refused (Err refusal) s answer target former z n = (refl, refl)
 
 -- a call that makes a state is served exactly if its questions pass
+-- an opening whose questions are asked first
+pub opens_then : (v : Verdict) (n m : ℕ) (h : Head) → opens (v then Ok (made n m h)) ≡ opened v n m h
+opens_then (Ok _) n m h = refl
+opens_then (Err refusal) n m h = refl
+
 pub opened_passed : (v : Verdict) (n m : ℕ) (h : Head) → number (opened v n m h) ≡ 0 → v ≡ passed
 opened_passed v n m h z = served_passed v _ _ (λ (a : Answer). number a) (λ e. refl) z
 

@@ -1,9 +1,11 @@
 -- Laws of places: how a search finds the first; and of the highest byte.
 -- Assumes nothing.
-use Rattle.std.specs.Prelude.{ℕ, zero, suc, ◌+◌, ◌-◌, ◌≤◌, ◌<◌, max, ◌≡◌, refl, Bool, true, false, List, [], ◌∷◌, eqb, ltb, length, get_or, drop}
+use Rattle.std.specs.Prelude.{ℕ, zero, suc, ◌+◌, ◌-◌, ◌≤◌, ◌<◌, max, ◌≡◌, refl, Bool, true, false, List, [], ◌∷◌, eqb, ltb, length, get_or, drop, replicate}
 use Rattle.std.proofs.Common.{sym, ap, ◌∙◌, add-one, arith, drop_of_length-le, drop-cons, eqb-true, ltb-true, ltb-false, lt-ltb, le-ltb, ne_eqb}
 use Rattle.std.proofs.lemmas.Bool.{eqb-false}
-use Rattle.std.specs.Prelude.{None, Some}
+use Rattle.std.proofs.lemmas.List.{length-replicate}
+use Rattle.std.specs.Prelude.{Option, None, Some, MatchOption}
+use Rattle.std.specs.List.{fold}
 use Rattle.rules.specs.Lists.{range, filter}
 use Rattle.rules.specs.Lists.Laws as Lists
 use Rattle.arbiter.specs.Places.{places, first, Bits, highest}
@@ -91,6 +93,16 @@ module _ {test : ℕ → Bool} {from i : ℕ} {bytes : List ℕ} (free : Free te
       let empty : places test i bytes ≡ [] = rw none in
       empty ∙ sym (places_none past))
 
+-- what a search of a range answers is the first place
+pub first_place : (test : ℕ → Bool) (from : ℕ) (bytes : List ℕ) (r : Option ℕ)
+    → MatchOption r ((k : ℕ) → from ≤ k → k < length bytes → test (get_or bytes k 0) ≡ false)
+    (λ i. (from ≤ i) × (i < length bytes) × (test (get_or bytes i 0) ≡ true) × ((k : ℕ) → from ≤ k → k < i → test (get_or bytes k 0) ≡ false))
+    → r ≡ first (places test from bytes)
+first_place test from bytes None none =
+    sym (ap first (places_none {test = test} {from = from} {i = max from (length bytes)} (record { at = λ k l u. none k l (omega arith) }) (omega arith)))
+first_place test from bytes (Some i) some =
+    sym (ap first (places_first {test = test} {from = from} {i = i} (record { at = some.3 }) some.0 some.1 some.2))
+
 -- what a search has found: the first such place of the buffer, and after it come the places from the next one on
 pub record Found (test : ℕ → Bool) (from i : ℕ) (bytes : List ℕ) : Type 0 where
   pub low : from ≤ i
@@ -132,6 +144,15 @@ pub highest_next : (bytes : List ℕ) (i : ℕ) → i < length bytes
 unfolding highest
 highest_next bytes i l = ap highest (drop-cons bytes i 0 l) ∙ rw add-one
 
+-- the highest of some bytes and a first number, one after another
+highest_from : (a : ℕ) (bytes : List ℕ) → fold max a bytes ≡ max a (highest bytes)
+unfolding highest
+highest_from a [] = omega arith
+highest_from a (b ∷ bs) = highest_from (max a b) bs ∙ omega arith
+
+pub highest_fold : (bytes : List ℕ) → fold max 0 bytes ≡ highest bytes
+highest_fold bytes = highest_from 0 bytes ∙ omega arith
+
 -- no byte is higher, and a number that no byte is above it is not above either
 pub highest_most : (bytes : List ℕ) (i : ℕ) → get_or bytes i 0 ≤ highest bytes
 unfolding highest
@@ -150,3 +171,7 @@ highest_bits bytes l i u = omega (arith, highest_most bytes i)
 
 pub bits_highest : (bytes : List ℕ) → Bits bytes → highest bytes ≤ 1
 bits_highest bytes b = highest_least bytes 1 b
+
+-- a buffer that is all 0 has the places that it is to have
+pub zeros_fit : {n i : ℕ} {bytes : List ℕ} → bytes ≡ replicate n 0 → i < n → i < length bytes
+zeros_fit {n} e l = omega (arith, ap length e, length-replicate {A = ℕ} n 0)

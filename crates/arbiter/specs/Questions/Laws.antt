@@ -141,6 +141,10 @@ ready n m h requests size z =
     let both = then_served (state n m h) (cycle n requests size) z in
     record { allows = allowed n m h both.0; lends = lent n requests size both.1 }
 
+-- the same told by the requests alone: there is one for each station
+pub of_requests : {n m size : ℕ} {h : Head} {requests : List ℕ} → Ready n m h requests size → Ready (length requests) m h requests size
+of_requests r = rw r.lends.asked r
+
 -- questions that pass
 pub width_passes : (n : ℕ) → 1 ≤ n → n ≤ max_width → width n ≡ passed
 width_passes n l u = rw (le-leb 1 n l, le-leb n max_width u)

@@ -1,7 +1,7 @@
 -- Laws of the engines' cycles: a served one is by the round-robin rule, and a refused one changes nothing.
 -- Assumes nothing.
 use Rattle.std.specs.Prelude.{ℕ, ◌*◌, ◌<◌, ◌≡◌, List, length}
-use Rattle.std.proofs.Math.Path.{refl, sym, ap}
+use Rattle.std.proofs.Math.Path.{refl, ap}
 use Rattle.std.proofs.Common.{arith, eq-eqb}
 use Rattle.rules.specs.Head.{Head}
 use Rattle.rules.specs.RoundRobin.{start}

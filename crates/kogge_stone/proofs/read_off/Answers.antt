@@ -1,15 +1,21 @@
--- `read_off` meets its contract.
+-- `read_off` meets its contract: what is read off the running codes is what the rule grants and decides.
 -- Assumes nothing.
-use mathlib.Core.Path.{◌∙◌}
+use Rattle.std.proofs.Common.{refl, ◌∙◌}
 use Rattle.kogge_stone.proofs.Counts as Counts
 use Rattle.kogge_stone.proofs.read_off.Goals as goal
 
+pub returns-then-count-eq0 : goal.returns-then-count-eq0
+returns-then-count-eq0 c =
+    let y = c.args.cycle.now in
+    let read =
+    Counts.idles y.picks _ y.head y.requests.now c.requires.picks_value c.args.picks.coded y.head_bound _ c.requires.counts_value
+    _ c.first_station-first.ensures _ c.grant_round.ensures _ c.count-count.ensures c.if-count-eq0.true in
+    record { value = c.idle.ensures ∙ read.0; same_reference = refl; grants_after = read.1 }
+
 pub returns : goal.returns
 returns c =
-    let d =
-    Counts.decides _ _ _ c.args.picks.coded c.requires.head_in_bounds _ c.requires.counts_value _ _ _ _ _ c.first_station-first.ensures c.grant_round.ensures
-    c.count.ensures c.first_place-position.ensures c.station-last.ensures in
-    record {
-      value = c.decide.ensures ∙ d.0;
-      grants_after = d.1;
-    }
+    let y = c.args.cycle.now in
+    let read =
+    Counts.decides y.picks _ y.head y.requests.now c.requires.picks_value c.args.picks.coded y.head_bound _ c.requires.counts_value
+    _ c.first_station-first.ensures _ c.grant_round.ensures _ c.count-count.ensures c.if-count-eq0.false _ _ c.first_place-position.ensures c.station-last.ensures in
+    record { value = c.decide.ensures ∙ read.0; same_reference = refl; grants_after = read.1 }

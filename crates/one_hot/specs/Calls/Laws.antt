@@ -25,10 +25,6 @@ here : Head → ℕ → Bool
 here None i = false
 here (Some h) i = eqb i h
 
-eqb_bit : (b : Bool) → eqb (bit b) 1 ≡ b
-eqb_bit true = refl
-eqb_bit false = refl
-
 ltb_bit : (b : Bool) → ltb 1 (bit b) ≡ false
 ltb_bit true = refl
 ltb_bit false = refl
@@ -66,7 +62,7 @@ image_bits n h =
 image_one : (n : ℕ) (h : Head) (i : ℕ) → i < length (image n h) → eqb (get_or (image n h) i 0) 1 ≡ here h i
 image_one n h i l =
     let in_image : i < n = omega (arith, image_length n h) in
-    ap (λ (b : ℕ). eqb b 1) (image_at n h i in_image) ∙ eqb_bit (here h i)
+    ap (λ (b : ℕ). eqb b 1) (image_at n h i in_image) ∙ Lists.bit_one (here h i)
 
 -- the place of its 1, if it has one
 place_of : Head → List ℕ

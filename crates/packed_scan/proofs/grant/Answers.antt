@@ -1,9 +1,8 @@
 -- `grant` meets its contract: the station that it grants has a byte.
 -- Assumes nothing.
-use Rattle.std.proofs.Common.{ℕ, sym, ap, ◌∙◌, ◌++◌, length, arith}
-use Rattle.std.proofs.lemmas.List.{length-replicate}
-use Rattle.rules.specs.Packing.{packed_length}
+use Rattle.std.proofs.Common.{ℕ, sym, ap, ◌∙◌, ◌++◌, arith}
 use Rattle.arbiter.specs.Places.{first, set_lines}
+use Rattle.arbiter.specs.Places.Laws.{zeros_fit}
 use Rattle.packed_scan.specs.Lines.Laws.{one_below}
 use Rattle.packed_scan.proofs.grant.Goals as goal
 
@@ -12,4 +11,4 @@ bounds-grants-station c =
     let a = c.args in
     let r = c.requires in
     let some = ap (λ (from : ℕ). first (set_lines from a.requests.now ++ set_lines 0 a.requests.now)) (sym c.first_station-first.ensures) ∙ sym c.first_request.ensures ∙ c.in-Some.is in
-    omega (arith, one_below a.width a.requests.now r.packed a.head r.head_bound _ some, ap length r.grants_value, length-replicate {A = ℕ} (packed_length a.width) 0)
+    let below = one_below a.width a.requests.now r.packed a.head r.head_bound _ some in zeros_fit r.grants_value (omega arith)

@@ -1,7 +1,7 @@
 -- Laws of the packed scan's calls: what is known once the questions have passed; and that a served cycle is the plain scan's on the
 -- unpacked wires.
 -- Assumes nothing.
-use Rattle.std.specs.Prelude.{ℕ, ◌/◌, ◌≡◌, List, map, length}
+use Rattle.std.specs.Prelude.{ℕ, ◌/◌, ◌<◌, ◌≡◌, List, map, length}
 use Rattle.std.proofs.Common.{sym, ap, ◌∙◌, arith}
 use Rattle.std.proofs.lemmas.List.{length-map}
 use Rattle.rules.specs.Head.{Head}
@@ -15,7 +15,8 @@ use Rattle.arbiter.specs.Questions as Questions
 use Rattle.arbiter.specs.Questions.{passed, refuse_at_first, ◌then◌}
 use Rattle.arbiter.specs.Questions.Laws.{then_served, width_served, one_pick_served, head_served, length_served, first_served, Allowed}
 use Rattle.packed_scan.specs.Calls.{state, questions}
-use Rattle.packed_scan.specs.Lines.{Packed}
+use Rattle.packed_scan.specs.Lines.{Packed, in_byte}
+use Rattle.packed_scan.specs.Lines.Laws.{in_some, in_place}
 
 -- what is known once 1, 3 and 4 have passed: all that the plain scan asks of a state, and one pick
 pub record OnePick (n m : ℕ) (h : Head) : Type 0 where
@@ -66,6 +67,11 @@ unused_none n packed e = ap (λ (ls : List ℕ). refuse_at_first UnusedBit (map 
 pub unused_at : (n : ℕ) (packed : List ℕ) (i k : ℕ) → first (set_lines n packed) ≡ Some i → i / 8 ≡ k
     → Questions.unused_bits n packed ≡ Err (UnusedBit k)
 unused_at n packed i k e place = rw (← place) (ap (λ (ls : List ℕ). refuse_at_first UnusedBit (map (λ i. i / 8) ls)) (first_some (set_lines n packed) i e).1)
+
+-- which is in the byte that has station n's line, if that byte is there
+pub unused_in : (n : ℕ) (packed : List ℕ) (w : ℕ) → n / 8 < length packed → in_byte n packed ≡ Some w
+    → Questions.unused_bits n packed ≡ Err (UnusedBit (n / 8))
+unused_in n packed w within e = unused_at n packed w (n / 8) (sym (in_some packed n w within e)) (in_place packed n w e)
 
 -- and 14
 pub record Ready (n m : ℕ) (h : Head) (requests : List ℕ) (size : ℕ) : Type 0 where

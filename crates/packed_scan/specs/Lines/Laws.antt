@@ -1,8 +1,9 @@
 -- Laws of the set lines of packed bytes: how a search by the table finds the first, and that it is whom the rule grants.
 -- Assumes nothing.
-use Rattle.std.specs.Prelude.{ℕ, ◌+◌, ◌-◌, ◌*◌, ◌/◌, ◌%◌, ◌^◌, ◌≤◌, ◌<◌, ◌≡◌, refl, Bool, true, ◌⊎◌, List, [], ◌∷◌, ◌++◌, map, eqb, ltb, length, get_or, take, set, replicate}
+use Rattle.std.specs.Prelude.{Option, IfSome, ℕ, ◌+◌, ◌-◌, ◌*◌, ◌/◌, ◌%◌, ◌^◌, ◌≤◌, ◌<◌, ◌≡◌, refl, Bool, true, ◌⊎◌, List, [], ◌∷◌, ◌++◌, map, eqb, ltb, length, get_or, take, set, replicate}
 use Rattle.std.proofs.lemmas.List.{get_or-map}
 use Rattle.std.proofs.Common.{sym, ap, ap₂, ◌∙◌, inl, inr, ⊎_elim, arith, zero-add, length-take-le, get_or-take, eq-eqb, ltb-true, ltb-false}
+use borrow.Author.Tests.{lt-ltb}
 use Rattle.rules.specs.Head.{Head}
 use Rattle.std.specs.Prelude.{None, Some}
 use Rattle.rules.specs.Lists.{range, marks}
@@ -16,7 +17,7 @@ use Rattle.arbiter.specs.Places.Laws.{first_none, Free, free_none, free_on, free
 use Rattle.arbiter.specs.Decisions.{requested, decision, deciding, counted}
 use Rattle.arbiter.specs.Decisions.Laws.{counted_one, decided_granted}
 use Rattle.arbiter.specs.Decisions.OnePick as OnePick
-use Rattle.packed_scan.specs.Lines.{Packed, listed}
+use Rattle.packed_scan.specs.Lines.{Packed, listed, through, in_byte}
 
 -- a line is set
 abbrev is_set : ℕ → Bool
@@ -147,6 +148,48 @@ set_first packed k line hit e below =
     let set = rw (← e) at (entry_set packed k 0 hit.high (omega arith) (omega (arith, e))) in
     sym (ap first (places_first (free_on zeros here.at) (omega arith) (omega (arith, lines_length packed, hit.high)) set))
 
+-- a search from a line on in that line's byte
+module _ (packed : List ℕ) (from : ℕ) where
+  abbrev own : ℕ
+  own = first_line (get_or packed (from / 8) 0) (from % 8)
+
+  -- finds the line that the entry names
+  in_found : (w : ℕ) → in_byte from packed ≡ Some w → (w ≡ 8 * (from / 8) + own) × (own < 8)
+  in_found w e = by (listed own) refl e
+    where
+      by : (o : Option ℕ) → listed own ≡ o → through (from / 8) o ≡ Some w → (w ≡ 8 * (from / 8) + own) × (own < 8)
+      by None q e = let no : ⊥ = cc in absurd no
+      by (Some line) q e =
+          let k = listed_some own line q in
+          let same : 8 * (from / 8) + line ≡ w = cc in
+          (omega (arith, k, same), omega (arith, k))
+
+  pub in_some : (w : ℕ) → from / 8 < length packed → in_byte from packed ≡ Some w → Some w ≡ first (set_lines from packed)
+  in_some w within e = let k = in_found w e in rw k.0 (set_home packed from own within refl k.1)
+
+  -- which is in that byte
+  pub in_place : (w : ℕ) → in_byte from packed ≡ Some w → w / 8 ≡ from / 8
+  in_place w e = omega (arith, in_found w e)
+
+  -- finds none: the entry is 8
+  pub in_none : in_byte from packed ≡ None → 8 ≤ own
+  in_none e = by (listed own) refl e
+    where
+      by : (o : Option ℕ) → listed own ≡ o → through (from / 8) o ≡ None → 8 ≤ own
+      by None q e = listed_none own q
+      by (Some line) q e = let no : ⊥ = cc in absurd no
+
+  -- of the last byte: it finds what a search to the end finds
+  pub in_last : from / 8 + 1 ≡ length packed → in_byte from packed ≡ None → None ≡ first (set_lines from packed)
+  in_last last e = set_none packed from own (omega arith) refl (in_none e) (rw last free_none)
+
+-- from the first line on of a byte whose entry names a line
+in_first : (packed : List ℕ) (k : ℕ) → first_line (get_or packed k 0) 0 < 8 → in_byte (8 * k) packed ≡ Some (8 * k + first_line (get_or packed k 0) 0)
+in_first packed k below =
+    let byte : (8 * k) / 8 ≡ k = omega arith in
+    let start : (8 * k) % 8 ≡ 0 = omega arith in
+    rw (byte, start, lt-ltb (first_line (get_or packed k 0) 0) 8 below)
+
 -- where every byte is 0 no line is set
 set_quiet : (packed : List ℕ) (from : ℕ) → Free (ltb 0) 0 (length packed) packed → set_lines from packed ≡ []
 set_quiet packed from zeros =
@@ -197,6 +240,13 @@ module _ (packed : List ℕ) (home : ℕ) (within : home < length packed) where
 
   pub next_some : (k : ℕ) → first (above ++ nonzero 0 upto_home) ≡ Some k → Next packed home k
   next_some k e = next_by above k refl e
+
+  pub next_within : {answer : Option ℕ} {k : ℕ} → answer ≡ first (above ++ nonzero 0 upto_home) → answer ≡ Some k → k < length packed
+  next_within {k = k} e f = (next_some k (sym e ∙ f)).within
+
+  pub next_bound : (answer : Option ℕ) → answer ≡ first (above ++ nonzero 0 upto_home) → IfSome answer (λ k. k < length packed)
+  next_bound None e = tt
+  next_bound (Some k) e = next_within e refl
 
   -- it finds none: every byte is 0
   none_by : (ps : List ℕ) → above ≡ ps → first (ps ++ nonzero 0 upto_home) ≡ None → Free (ltb 0) 0 (length packed) packed
@@ -274,6 +324,20 @@ round_next packed from entry k line within is full next e below =
     ∙ round_low packed from (omega arith) (sym (set_none packed from entry within is full both.0)))
     next.found
 
+-- so does a search in that line's byte, and else in the next byte
+pub round_some : (packed : List ℕ) (from w : ℕ) → from / 8 < length packed → in_byte from packed ≡ Some w
+    → Some w ≡ first (set_lines from packed ++ set_lines 0 packed)
+round_some packed from w within e = round_high packed from w (sym (in_some packed from w within e))
+
+pub round_other : (packed : List ℕ) (from k : ℕ) → from / 8 < length packed → in_byte from packed ≡ None
+    → first (nonzero (from / 8 + 1) packed ++ nonzero 0 (take (from / 8 + 1) packed)) ≡ Some k
+    → get_or packed k 0 < 256 → in_byte (8 * k) packed ≡ first (set_lines from packed ++ set_lines 0 packed)
+round_other packed from k within none e small =
+    let next = next_some packed (from / 8) within k e in
+    let line = first_line (get_or packed k 0) 0 in
+    let below : line < 8 = some_entry (get_or packed k 0) line next.some small refl in
+    in_first packed k below ∙ round_next packed from (first_line (get_or packed (from / 8) 0) (from % 8)) k line within refl (in_none packed from none) next refl below
+
 -- the packed wires of n stations
 module _ (n : ℕ) (packed : List ℕ) (p : Packed n packed) where
   -- no line past the last station is set
@@ -327,7 +391,7 @@ module _ (n : ℕ) (packed : List ℕ) (p : Packed n packed) where
       pub one_below : w < n
       one_below = OnePick.granted_below n h (requested wires) station w (sym round_granted ∙ e)
 
-      pub one_decides : counted n h 1 w ≡ decision n 1 h (requested (unpack n packed))
+      pub one_decides : counted n h 1 (Some w) ≡ decision n 1 h (requested (unpack n packed))
       one_decides = counted_one n w h one_below ∙ decided_granted n 1 h (requested wires) (w ∷ []) only
 
       pub one_grants : set (replicate (packed_length n) 0) (w / 8) (2 ^ (w % 8)) ≡ pack (grants n 1 h (requested (unpack n packed)))

@@ -1,12 +1,11 @@
 -- A run of stations, step by step, and two runs as one walk round. All that is used of the round-robin rule are its laws.
 -- Assumes nothing.
-use Rattle.std.specs.Prelude.{ℕ, suc, ◌+◌, ◌-◌, ◌%◌, ◌≤◌, ◌<◌, min, ◌≡◌, refl, Bool, true, false, cond, ◌&&◌, List, eqb, ltb, length, get_or, set, replicate}
+use Rattle.std.specs.Prelude.{ℕ, suc, ◌+◌, ◌-◌, ◌%◌, ◌≤◌, ◌<◌, min, ◌≡◌, refl, Bool, true, false, cond, ◌&&◌, List, eqb, ltb, length, get_or, set, replicate, Option, None, Some}
 use Rattle.std.proofs.Common.{sym, ap, ◌∙◌, zero-add, arith, length-set, get_or-set_same, get_or-set_other, ext_get_or, eqb-true, ltb-true, ltb-false, lt-ltb, le-ltb}
 use Rattle.std.proofs.Math.Bool.{and-false}
 use Rattle.std.proofs.lemmas.List.{length-replicate, get_or-replicate}
 use Rattle.std.proofs.lemmas.Bool.{eqb-false}
 use Rattle.rules.specs.Head.{Head}
-use Rattle.std.specs.Prelude.{Some}
 use Rattle.rules.specs.Lists.{bit, range, filter, count, before}
 use Rattle.rules.specs.Lists.Laws as Lists
 use Rattle.rules.specs.RoundRobin.{start, order, granted, grants, next}
@@ -14,7 +13,7 @@ use Rattle.rules.proofs.RoundRobin.Laws as RoundRobin
 use Rattle.rules.specs.Walk.{reached, RanBy, Ran}
 
 -- a run from a station on, of a walk that granted c₀ before it, the last of them z₀
-module _ (m : ℕ) (asks : ℕ → Bool) (from c₀ z₀ : ℕ) (old : List ℕ) where
+module _ (m : ℕ) (asks : ℕ → Bool) (from c₀ : ℕ) (z₀ : Option ℕ) (old : List ℕ) where
   -- before its first station
   pub begin : c₀ ≤ m → Ran m asks from from c₀ z₀ old c₀ z₀ old
   begin l =
@@ -29,12 +28,13 @@ module _ (m : ℕ) (asks : ℕ → Bool) (from c₀ z₀ : ℕ) (old : List ℕ)
         some = λ a. absurd (omega arith);
       }
 
-  module _ (i : ℕ) (at : from ≤ i) (c z : ℕ) (new : List ℕ) (r : Ran m asks from i c₀ z₀ old c z new) where
-    -- past stations that do not ask
-    pub quiet : (to : ℕ) → i ≤ to → ((w : ℕ) → i ≤ w → w < to → asks w ≡ false) → Ran m asks from to c₀ z₀ old c z new
-    quiet to u none =
+  module _ (i : ℕ) (at : from ≤ i) (c : ℕ) (z : Option ℕ) (new : List ℕ) (r : Ran m asks from i c₀ z₀ old c z new) where
+    -- past stations of which none is granted
+    passed : (to : ℕ) → i ≤ to → c ≡ min m (reached asks from to c₀)
+        → ((w : ℕ) → i ≤ w → w < to → (asks w && ltb (reached asks from w c₀) m) ≡ false) → Ran m asks from to c₀ z₀ old c z new
+    passed to u e none =
         record {
-          counted = omega (arith, r.counted, Lists.count_same asks from i to at u none);
+          counted = e;
           here =
               λ w a b.
               Lists.split (ltb w i)
@@ -44,8 +44,13 @@ module _ (m : ℕ) (asks : ℕ → Bool) (from c₀ z₀ : ℕ) (old : List ℕ)
           above = λ w a. r.above w (omega arith);
           long = r.long;
           none = r.none;
-          some = λ a. let l = r.some a in (l.0, omega (arith, l.1), l.2, l.3);
+          some = λ a. let l = r.some a in (l.0, l.1, l.2, omega (arith, l.3), l.4, l.5);
         }
+
+    -- past stations that do not ask
+    pub quiet : (to : ℕ) → i ≤ to → ((w : ℕ) → i ≤ w → w < to → asks w ≡ false) → Ran m asks from to c₀ z₀ old c z new
+    quiet to u none =
+        passed to u (omega (arith, r.counted, Lists.count_same asks from i to at u none)) (λ w a b. rw (none w a b))
 
     -- past one
     pub skip : asks i ≡ false → Ran m asks from (i + 1) c₀ z₀ old c z new
@@ -53,7 +58,7 @@ module _ (m : ℕ) (asks : ℕ → Bool) (from c₀ z₀ : ℕ) (old : List ℕ)
 
     -- past a station that asks and is granted
     pub grant : asks i ≡ true → c < m → i < length new
-        → Ran m asks from (i + 1) c₀ z₀ old (c + 1) i (set new i 1)
+        → Ran m asks from (i + 1) c₀ z₀ old (c + 1) (Some i) (set new i 1)
     grant t free fits =
         let whole : c ≡ reached asks from i c₀ = omega (arith, r.counted) in
         record {
@@ -70,32 +75,20 @@ module _ (m : ℕ) (asks : ℕ → Bool) (from c₀ z₀ : ℕ) (old : List ℕ)
           above = λ w a. get_or-set_other new i w 1 0 (λ e. omega arith) ∙ r.above w (omega arith);
           long = length-set new i 1 ∙ r.long;
           none = λ e. absurd (omega arith);
-          some = λ a. (at, omega arith, t, omega arith);
+          some = λ a. (i, refl, at, omega arith, t, omega arith);
         }
 
     -- once the picks are used up, the rest of the run changes nothing
     pub full : (to : ℕ) → i ≤ to → c ≡ m → Ran m asks from to c₀ z₀ old c z new
     full to u e =
-        record {
-          counted = omega (arith, r.counted, Lists.count_more asks from i to at u);
-          here =
-              λ w a b.
-              Lists.split (ltb w i)
-              (λ t. r.here w a (ltb-true w i t))
-              (λ f.
-              let past : i ≤ w = ltb-false w i f in
-              let over : ltb (reached asks from w c₀) m ≡ false =
-              le-ltb (reached asks from w c₀) m (omega (arith, r.counted, Lists.count_more asks from i w at past)) in
-              rw (over, and-false (asks w)) (r.above w past));
-          below = r.below;
-          above = λ w a. r.above w (omega arith);
-          long = r.long;
-          none = r.none;
-          some = λ a. let l = r.some a in (l.0, omega (arith, l.1), l.2, l.3);
-        }
+        passed to u (omega (arith, r.counted, Lists.count_more asks from i to at u))
+        (λ w a b.
+        let over : ltb (reached asks from w c₀) m ≡ false =
+        le-ltb (reached asks from w c₀) m (omega (arith, r.counted, Lists.count_more asks from i w at a)) in
+        rw over (and-false (asks w)))
 
 -- a run by other counts that are the same up to m
-pub recounted : {m from to c₀ z₀ c z : ℕ} {asks : ℕ → Bool} {a b : ℕ → ℕ} {old new : List ℕ} → from ≤ to
+pub recounted : {m from to c₀ c : ℕ} {z₀ z : Option ℕ} {asks : ℕ → Bool} {a b : ℕ → ℕ} {old new : List ℕ} → from ≤ to
     → ((w : ℕ) → from ≤ w → w ≤ to → min m (a w) ≡ min m (b w))
     → RanBy m asks a from to c₀ z₀ old c z new → RanBy m asks b from to c₀ z₀ old c z new
 recounted {m} {from} {to} {asks = asks} {a = a} {b = b} l same r =
@@ -112,7 +105,7 @@ recounted {m} {from} {to} {asks = asks} {a = a} {b = b} l same r =
       above = r.above;
       long = r.long;
       none = r.none;
-      some = λ more. let f = r.some more in (f.0, f.1, f.2, omega (arith, f.3, r.counted, same _ f.0 (omega (arith, f.1))));
+      some = λ more. let f = r.some more in (f.0, f.1, f.2, f.3, f.4, omega (arith, f.5, r.counted, same _ f.2 (omega (arith, f.3))));
     }
 
 -- a byte that was 0
@@ -122,20 +115,20 @@ cond_bit false x e = e
 
 -- a walk once round, which granted c stations, the last of them z: how many it granted, what it wrote, and the next head where
 -- it granted anyone
-pub record Walked (n m : ℕ) (h : Head) (asks : ℕ → Bool) (c z : ℕ) (new : List ℕ) : Type 0 where
+pub record Walked (n m : ℕ) (h : Head) (asks : ℕ → Bool) (c : ℕ) (z : Option ℕ) (new : List ℕ) : Type 0 where
   pub counted : c ≡ length (granted n m h asks)
   pub bytes : new ≡ grants n m h asks
-  pub within : 0 < c → z < n
-  pub last : 0 < c → next n m h asks ≡ Some ((z + 1) % n)
+  pub nobody : c ≡ 0 → z ≡ None
+  pub last : 0 < c → (w : ℕ) × (z ≡ Some w) × (w < n) × (next n m h asks ≡ Some ((w + 1) % n))
 
 -- a run is told by where it begins and ends, and by the buffer before it
-pub told : {m from to a b c₀ z₀ c z : ℕ} {asks : ℕ → Bool} {old was new : List ℕ} → from ≡ a → to ≡ b → old ≡ was
+pub told : {m from to a b c₀ c : ℕ} {z₀ z : Option ℕ} {asks : ℕ → Bool} {old was new : List ℕ} → from ≡ a → to ≡ b → old ≡ was
     → Ran m asks from to c₀ z₀ old c z new → Ran m asks a b c₀ z₀ was c z new
 told e f g r = rw (e, f, g) at r
 
 -- the two runs of a walk
-module _ (n m : ℕ) (h : Head) (asks : ℕ → Bool) (station : start h < n) (c₁ z₁ c z : ℕ) (mid new : List ℕ)
-    (one : Ran m asks (start h) n 0 0 (replicate n 0) c₁ z₁ mid) (two : Ran m asks 0 (start h) c₁ z₁ mid c z new) where
+module _ (n m : ℕ) (h : Head) (asks : ℕ → Bool) (station : start h < n) (c₁ : ℕ) (z₁ : Option ℕ) (c : ℕ) (z : Option ℕ) (mid new : List ℕ)
+    (one : Ran m asks (start h) n 0 None (replicate n 0) c₁ z₁ mid) (two : Ran m asks 0 (start h) c₁ z₁ mid c z new) where
   abbrev s : ℕ
   s = start h
 
@@ -190,43 +183,49 @@ module _ (n m : ℕ) (h : Head) (asks : ℕ → Bool) (station : start h < n) (c
       ∙ sym (RoundRobin.grants_member n m h asks w u ∙ ap bit (RoundRobin.granted_member n m h asks w (omega arith) u)))
 
   -- the one granted last makes up the number of the granted
-  record Last : Type 0 where
-    in_range : z < n
-    wants : asks z ≡ true
-    ends : suc (count asks (before z (order n h))) ≡ length (granted n m h asks)
+  record Last (w : ℕ) : Type 0 where
+    is : z ≡ Some w
+    in_range : w < n
+    wants : asks w ≡ true
+    ends : suc (count asks (before w (order n h))) ≡ length (granted n m h asks)
 
-  last_of_first : c ≡ c₁ → 0 < c → Last
+  last_of_first : c ≡ c₁ → 0 < c → (w : ℕ) × Last w
   last_of_first e some =
-      let l = one.some (omega arith) in
-      let same : z ≡ z₁ = two.none e in
-      record {
-        in_range = omega (arith, l.1);
-        wants = rw same l.2;
-        ends =
-            rw (same, RoundRobin.before_high n h z₁ l.0 l.1) (omega (arith, l.3, done_count));
-      }
+      let l = one.some (omega arith) in (
+        l.0,
+        record {
+          is = two.none e ∙ l.1;
+          in_range = l.3;
+          wants = l.4;
+          ends = rw (RoundRobin.before_high n h l.0 l.2 l.3) (omega (arith, l.5, done_count));
+        },
+      )
 
-  last_of_second : c₁ < c → Last
+  last_of_second : c₁ < c → (w : ℕ) × Last w
   last_of_second some =
       let l = two.some some in
-      let all : z - 0 ≡ z = omega arith in
-      record {
-        in_range = omega (arith, l.1);
-        wants = l.2;
-        ends =
-            omega (
-              arith,
-              l.3,
-              done_count,
-              half_count,
-              two.counted,
-              ap (λ (k : ℕ). count asks (range 0 k)) all,
-              ap (count asks) (RoundRobin.before_low n h z l.1),
-              Lists.count_append asks (range s (n - s)) (range 0 z),
-            );
-      }
+      let w = l.0 in
+      let all : w - 0 ≡ w = omega arith in (
+        w,
+        record {
+          is = l.1;
+          in_range = omega (arith, l.3);
+          wants = l.4;
+          ends =
+              omega (
+                arith,
+                l.5,
+                done_count,
+                half_count,
+                two.counted,
+                ap (λ (k : ℕ). count asks (range 0 k)) all,
+                ap (count asks) (RoundRobin.before_low n h w l.3),
+                Lists.count_append asks (range s (n - s)) (range 0 w),
+              );
+        },
+      )
 
-  last_of : 0 < c → Last
+  last_of : 0 < c → (w : ℕ) × Last w
   last_of some =
       Lists.split (eqb c c₁)
       (λ e. last_of_first (eqb-true c c₁ e) some)
@@ -237,10 +236,18 @@ module _ (n m : ℕ) (h : Head) (asks : ℕ → Bool) (station : start h < n) (c
       record {
         counted = done_count;
         bytes = bytes;
-        within = λ some. (last_of some).in_range;
+        nobody =
+            λ e.
+            let same : c ≡ c₁ = omega (arith, two.counted, half_count) in
+            let before : c₁ ≡ 0 = omega arith in two.none same ∙ one.none before;
         last =
             λ some.
             let l = last_of some in
-            RoundRobin.next_last n m h asks (filter asks (before z (order n h))) z
-            (RoundRobin.granted_upto n m h asks z (omega arith) l.in_range l.wants l.ends);
+            let w = l.0 in (
+              w,
+              l.1.is,
+              l.1.in_range,
+              RoundRobin.next_last n m h asks (filter asks (before w (order n h))) w
+                  (RoundRobin.granted_upto n m h asks w (omega (arith, l.1.in_range)) l.1.in_range l.1.wants l.1.ends),
+            );
       }

@@ -37,6 +37,11 @@ pub bit_le : (b : Bool) → bit b ≤ 1
 bit_le true = omega arith
 bit_le false = omega arith
 
+-- and 1 where the test is passed
+pub bit_one : (b : Bool) → eqb (bit b) 1 ≡ b
+bit_one true = refl
+bit_one false = refl
+
 -- counting along two lists, one after the other
 pub count_append : {A : Type 0} (p : A → Bool) (xs ys : List A) → count p (xs ++ ys) ≡ count p xs + count p ys
 count_append p [] ys = omega arith

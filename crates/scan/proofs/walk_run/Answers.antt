@@ -1,11 +1,9 @@
 -- `walk_run` meets its contract: up to the station found last the run is done.
 -- Assumes nothing.
-use Rattle.std.proofs.Common.{ℕ, ◌≤◌, List, Option, Some, length, take}
 use mathlib.Core.Path.{◌≡◌, sym, ◌∙◌}
 use native.Mathlib.Omega.{arith}
 use lib.ListN.{length-set, length-take}
 use Rattle.rules.proofs.Walk.Laws as Walk
-use Rattle.arbiter.specs.Places.{ones, first}
 use Rattle.scan.proofs.Searches as Searches
 use Rattle.scan.proofs.walk_run.Goals as goal
 
@@ -22,28 +20,11 @@ returns-in_default c =
     let none = Searches.nobody a.requests.now l.i a.to (omega arith) (sym c.first_one.ensures ∙ c.in_default.is) in
     Walk.quiet _ _ _ _ _ _ l.i l.invariant.0 _ _ _ l.invariant.4 a.to l.invariant.1 none
 
--- the station found
-station : {from to w : ℕ} {requests : List ℕ} {r : Option ℕ} → (room : to ≤ length requests) → r ≡ first (ones from (take to requests)) → r ≡ Some w
-    → Searches.Found requests from to room w
-station {from} {to} {w} {requests} room e f = Searches.found requests from to room w (sym e ∙ f)
-
-pub bounds-grants-station : goal.bounds-grants-station
-bounds-grants-station c =
-    let l = c.loop-count in
-    let a = c.args in
-    let w = station {from = l.i} {to = a.to} {requests = a.requests.now} (omega (arith, c.requires)) c.first_one.ensures c.in-Some.is in omega (arith, w.high)
-
-pub overflow_add-i : goal.overflow_add-i
-overflow_add-i c =
-    let l = c.loop-count in
-    let a = c.args in
-    let w = station {from = l.i} {to = a.to} {requests = a.requests.now} (omega (arith, c.requires)) c.first_one.ensures c.in-Some.is in omega (arith, w.high)
-
 pub loop-count-preserved : goal.loop-count-preserved
 loop-count-preserved c =
     let l = c.loop-count in
     let a = c.args in
-    let w = station {from = l.i} {to = a.to} {requests = a.requests.now} (omega (arith, c.requires)) c.first_one.ensures c.in-Some.is in
+    let w = Searches.found a.requests.now l.i a.to (omega arith) _ (sym c.first_one.ensures ∙ c.in-Some.is) in
     let r = Walk.quiet _ _ _ _ _ _ l.i l.invariant.0 _ _ _ l.invariant.4 _ w.low w.earlier in (
       omega (arith, w.low),
       omega (arith, w.high),

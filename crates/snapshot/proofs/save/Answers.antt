@@ -7,12 +7,6 @@ use Rattle.snapshot.specs.Calls.{size}
 use Rattle.snapshot.specs.Calls.Laws.{six_saved, mark_bit}
 use Rattle.snapshot.proofs.save.Goals as goal
 
-pub overflow_cast-first_station : goal.overflow_cast-first_station
-overflow_cast-first_station c =
-    let a = c.args in
-    let known = writable a.width a.picks a.head size (length a.snapshot.now) (sym c.write.ensures ∙ c.in_ok-write.was) in
-    omega (arith, c.first_station.ensures, known.allows.station, known.allows.most)
-
 pub returns-clause-snapshot_after : goal.returns-clause-snapshot_after
 returns-clause-snapshot_after c =
     let a = c.args in

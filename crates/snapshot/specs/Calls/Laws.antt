@@ -93,10 +93,11 @@ asked_whole : (bytes : List ℕ) → get_or bytes 0 0 < 256 → read_length (len
     → questions bytes ≡ (Questions.bits (length bytes - 1) bytes then allowed (fields bytes))
 asked_whole bytes byte z = rw z (sym (asked bytes byte z))
 
--- the questions once 5 has passed, of a snapshot that says f
-pub asked_rest : (bytes : List ℕ) (f : Fields) → get_or bytes 0 0 < 256 → (read_length (length bytes) then Ok (fields bytes)) ≡ Ok f
-    → (questions bytes then Ok (fields bytes)) ≡ (Questions.bits (length bytes - 1) bytes then allowed f then Ok f)
-asked_rest bytes f byte e =
+-- the questions once 5 has passed, of a snapshot that says f, and what is made of what it says
+pub asked_rest : {A : Type 0} (make : Fields → A) (bytes : List ℕ) (f : Fields) → get_or bytes 0 0 < 256
+    → (read_length (length bytes) then Ok (fields bytes)) ≡ Ok f
+    → (questions bytes then Ok (make (fields bytes))) ≡ (Questions.bits (length bytes - 1) bytes then allowed f then Ok (make f))
+asked_rest make bytes f byte e =
     let five = then_served (read_length (length bytes)) (Ok (fields bytes)) e in
     let same : fields bytes ≡ f = cc in
     rw (asked_whole bytes byte five.0, same)

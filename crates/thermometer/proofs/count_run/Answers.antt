@@ -6,9 +6,9 @@ use mathlib.Core.Bool.{true}
 use native.Mathlib.Omega.{arith}
 use lib.ListN.{get_or}
 use Rattle.rules.specs.Thermometer.{is_code, add}
-use Rattle.rules.proofs.Thermometer.Laws.{full_ones, code_few}
+use Rattle.rules.proofs.Thermometer.Laws.{full_ones, code_few, add_is_code}
 use Rattle.rules.proofs.Walk.Laws as Walk
-use Rattle.thermometer.proofs.Runs.Laws.{code_first, code_next, code_coded, to_codes}
+use Rattle.thermometer.proofs.Runs.Laws.{code_first, code_next, to_codes}
 use mir.Syntax.{fn₀}
 use Rattle.arbiter.specs.Trace.{trace, end, computes, calls, leaves, either, repeats}
 use Rattle.thermometer.proofs.Steps as Steps
@@ -29,15 +29,11 @@ one_step = refl
 
 pub loop-i-init : goal.loop-i-init
 loop-i-init c =
-    let a = c.args in
-    (sym (code_first a.picks a.requests.now a.from a.to _), Walk.begin _ _ _ _ _ _ (code_few _ _ c.requires.code_value))
-
-pub step-sum-requires-clause-code_value : goal.step-sum-requires-clause-code_value
-step-sum-requires-clause-code_value c =
-    let l = c.loop-i in
-    let a = c.args in
-    let coded = code_coded a.picks a.requests.now a.from a.to _ c.requires.code_value l.i (omega arith) (omega arith) in
-    rw (full_ones 8 _ _ c.requires.picks_bound c.code.ensures, l.invariant.0) coded
+    let a = c.args in (
+      c.requires.code_value,
+      sym (code_first a.picks a.requests.now a.from a.to _),
+      Walk.begin _ _ _ _ _ _ (code_few _ _ c.requires.code_value),
+    )
 
 pub loop-i-preserved : goal.loop-i-preserved
 loop-i-preserved c =
@@ -45,21 +41,23 @@ loop-i-preserved c =
     let a = c.args in
     let m = a.picks in
     let wire = c.requires.bits l.i (omega arith) in
-    let coded : is_code m l.walk.code ≡ true =
-    rw l.invariant.0 (code_coded m a.requests.now a.from a.to _ c.requires.code_value l.i (omega arith) (omega arith)) in
+    let coded = l.invariant.0 in
     let sum = rw (full_ones 8 _ _ c.requires.picks_bound c.code.ensures) at c.step-sum.ensures in
     let next =
-    ap (λ (c : ℕ). add m c (get_or a.requests.now l.i 0)) l.invariant.0
+    ap (λ (c : ℕ). add m c (get_or a.requests.now l.i 0)) l.invariant.1
     ∙ sym (code_next m a.requests.now a.from a.to a.walk.code l.i (omega arith) (omega arith) wire) in
+    let stepped : is_code m c.step-sum.result ≡ true = rw sum (add_is_code m l.walk.code _) in
     elim c.if-sum-walk.branch [
       | then-sum-walk w ↦ rw (w.grants-is, w.walk-is) (
+        stepped,
         sum ∙ next,
-        rw (← sum) at (Steps.granted _ _ _ coded wire _ _ _ _ _ l.i (omega arith) _ _ l.invariant.1 refl (rw sum at w.if-sum-walk.true) (omega arith)),
+        rw (← sum) at (Steps.granted _ _ _ coded wire _ _ _ _ _ l.i (omega arith) _ _ l.invariant.2 refl (rw sum at w.if-sum-walk.true) (omega arith)),
       )
       | else-sum-walk w ↦ let stays = rw sum at w.if-sum-walk.false in
           rw (w.grants-is, w.walk-is) (
+            coded,
             sym stays ∙ next,
-            Steps.passed_over _ _ _ coded wire _ _ _ _ _ l.i (omega arith) _ _ l.invariant.1 refl stays,
+            Steps.passed_over _ _ _ coded wire _ _ _ _ _ l.i (omega arith) _ _ l.invariant.2 refl stays,
           )
     ]
 
@@ -67,4 +65,4 @@ pub returns : goal.returns
 returns c =
     let l = c.loop-i in
     let e : l.i ≡ c.args.to = omega arith in
-    to_codes _ _ _ _ _ _ _ _ c.requires.code_value c.requires.from_le_to (rw e at l.invariant.1) (rw e at l.invariant.0)
+    to_codes _ _ _ _ _ _ _ _ c.requires.code_value c.requires.from_le_to (rw e at l.invariant.2) (rw e at l.invariant.1)

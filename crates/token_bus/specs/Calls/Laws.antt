@@ -16,7 +16,8 @@ use Rattle.arbiter.specs.Places.{ones, first, Bits, highest}
 use Rattle.arbiter.specs.Places.Laws.{first_none}
 use Rattle.arbiter.specs.Questions as Questions
 use Rattle.arbiter.specs.Questions.{passed, ◌then◌}
-use Rattle.arbiter.specs.Questions.Laws.{then_served, then_passed, width_served, token_served, Lent, lent, lends}
+use Rattle.arbiter.specs.Questions.Laws.{then_served, then_passed, width_served, one_pick_served, token_served, Lent, lent, lends, read_passed}
+use Rattle.arbiter.specs.Questions.Laws as Asked
 use Rattle.arbiter.specs.Answers.{Outcome, number, answered, if_passed}
 use Rattle.arbiter.specs.Answers.Laws.{writes_passed, writes_is, writes_refused, answered_writes}
 use Rattle.arbiter.specs.Cycle.{asking}
@@ -53,6 +54,41 @@ ready n m h requests size byte z =
     let read = then_served (state n m h then Questions.cycle n requests size) (Questions.acknowledge byte) z in
     let both = then_served (state n m h) (Questions.cycle n requests size) read.0 in
     record { before = both.0; allows = allowed n m h both.0; lends = lent n requests size both.1 }
+
+-- the same as an arbiter by the round-robin rule has it
+pub as_ready : (n m : ℕ) (h : Head) (requests : List ℕ) (size byte : ℕ) → questions n m h requests size byte ≡ passed
+    → Asked.Ready n m h requests size
+as_ready n m h requests size byte z =
+    let r = ready n m h requests size byte z in
+    let two = then_served (Questions.width n then Questions.one_pick m) (Questions.token n h) r.before in
+    let one = then_served (Questions.width n) (Questions.one_pick m) two.0 in
+    let w = width_served n one.0 in
+    let pick = one_pick_served m one.1 in
+    record {
+      allows =
+          record {
+            some = w.0;
+            most = w.1;
+            picked = omega (arith, pick);
+            few = omega (arith, pick);
+            fit = omega (arith, pick, w.0);
+            station = r.allows.station;
+          };
+      lends = r.lends;
+    }
+
+-- those of a cycle, asked in three steps, with the highest byte in hand
+pub asked : (n m : ℕ) (h : Head) (requests : List ℕ) (size byte : ℕ) {u : Unit {0}} {high : ℕ} → state n m h ≡ Ok u
+    → (Questions.cycle n requests size then Ok (highest requests)) ≡ Ok high → Questions.acknowledge byte ≡ passed
+    → (questions n m h requests size byte ≡ passed) × (high ≡ highest requests)
+asked n m h requests size byte z e y =
+    let k = read_passed _ n requests size z e in (then_passed (state n m h then Questions.cycle n requests size) _ k.0 y, k.1)
+
+-- where they have passed there is a token
+pub token_is : (n m : ℕ) (h : Head) → state n m h ≡ passed → h ≡ Some (start h)
+token_is n m h z =
+    let two = then_served (Questions.width n then Questions.one_pick m) (Questions.token n h) z in
+    let t = token_served n h two.1 in t.2 ∙ ap Some (sym (ap start t.2 ∙ RoundRobin.start_at t.0))
 
 -- a call that decides where its questions pass, and then writes, answers and writes as a cycle is to
 pub answered_cycle : (s : State) (requests former : List ℕ) (byte : ℕ)

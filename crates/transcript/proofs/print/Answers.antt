@@ -1,4 +1,5 @@
 -- `print` meets its contract: the heading, and what follows it.
+-- Named on the function, the laws of the text do not close it: the search comes to a limit.
 -- Assumes nothing.
 use Rattle.std.proofs.Common.{ap, sym, arith}
 use Rattle.text.specs.Output.Laws.{same_written, written_then}

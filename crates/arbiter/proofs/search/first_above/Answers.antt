@@ -1,20 +1,15 @@
--- `first_above` meets its contract: no byte that it passed is above the limit.
+-- `first_above` meets its contract: the first of a range whose byte is above the limit is the first such place.
 -- Assumes nothing.
-use mathlib.Core.Path.{sym, ap}
-use native.Mathlib.Omega.{arith}
-use borrow.Author.Tests.{lt-ltb, le-ltb}
-use Rattle.arbiter.specs.Places.{first}
-use Rattle.arbiter.specs.Places.Laws.{free_none, free_more, places_none, places_first}
+use Rattle.std.proofs.Common.{◌≡◌, true, false, ltb, get_or, arith, rules, tests}
+use Rattle.std.proofs.lemmas.Iterator.{first_from_Range}
+use Rattle.std.proofs.lemmas.List.{get_or_read}
+use Rattle.arbiter.specs.Places.Laws.{first_place}
 use Rattle.arbiter.proofs.search.first_above.Goals as goal
 
-pub loop-i-init : goal.loop-i-init
-loop-i-init c = free_none
-
-pub returns-then-limit-bytes : goal.returns-then-limit-bytes
-returns-then-limit-bytes c = sym (ap first (places_first c.loop-i.invariant (omega arith) (omega arith) (lt-ltb _ _ (omega arith))))
-
-pub loop-i-preserved : goal.loop-i-preserved
-loop-i-preserved c = free_more c.loop-i.invariant (le-ltb _ _ (omega arith))
-
 pub returns : goal.returns
-returns c = sym (ap first (places_none c.loop-i.invariant (omega arith)))
+returns c =
+    let b = c.args.bytes.now in
+    let above = ltb c.args.limit in
+    first_place above c.args.from b _ (first_from_Range _ _ _ c.find.result (λ i. above (get_or b i 0) ≡ true) (λ i. above (get_or b i 0) ≡ false) c.find.ensures.ran
+    (λ x q k. grind (arith, tests, get_or_read))
+    (λ x q k. (search rules, grind (arith, tests, get_or_read))))

@@ -1,15 +1,12 @@
--- `highest` meets its contract: what it has, and the highest of the bytes to come, is the highest of all.
+-- `highest` meets its contract: the library's fold over a slice goes from byte to byte.
 -- Assumes nothing.
-use native.Mathlib.Omega.{arith}
-use Rattle.arbiter.specs.Places.Laws.{highest_none, highest_next}
+use Rattle.std.proofs.Common.{◌∙◌, max, rules, tests}
+use Rattle.std.proofs.lemmas.Iterator.{YieldsList-from_slice}
+use Rattle.std.proofs.lemmas.Iterator.Consumers.{fold_from_yields_List}
+use Rattle.arbiter.specs.Places.Laws.{highest_fold}
 use Rattle.arbiter.proofs.search.highest.Goals as goal
-
-pub loop-byte-preserved : goal.loop-byte-preserved
-loop-byte-preserved c =
-    let rest = highest_next c.args.bytes.now c.loop-byte.byte-index (omega arith) in grind (arith, rest)
 
 pub returns : goal.returns
 returns c =
-    let l = c.loop-byte in
-    let b = c.args.bytes.now in
-    omega (arith, highest_none b l.byte-index c.loop-byte-test.false, l.invariant)
+    let s = c.args.bytes.now in
+    fold_from_yields_List _ max 0 _ c.fold.ensures.ran (YieldsList-from_slice s c.iter.ensures.rest) (λ a x b q k. search (rules, tests)) ∙ highest_fold s

@@ -1,9 +1,12 @@
 -- `join_at` meets its contract: up to position p the codes are joined, from there on they are as before.
 -- Assumes nothing.
 use lib.Count.{ones}
+use Rattle.std.proofs.Common.{◌≡◌, ℕ, ◌<◌, ◌≤◌, length, get_or}
 use Rattle.rules.specs.KoggeStone.{joined}
-use Rattle.kogge_stone.proofs.Fill.{Filled}
 use Rattle.kogge_stone.proofs.network.join_at.Given as goal
 
 abbrev pub invariant-loop-p : goal.invariant-loop-p
-invariant-loop-p l = Filled (joined (ones l.picks.code) l.distance l.before) l.before l.p l.codes
+invariant-loop-p l = record {
+  done : (k : ℕ) → k < l.p → k < length l.before → get_or l.codes k 0 ≡ get_or (joined (ones l.picks.code) l.distance l.before) k 0;
+  kept : (k : ℕ) → l.p ≤ k → get_or l.codes k 0 ≡ get_or l.before k 0;
+}

@@ -1,33 +1,24 @@
 -- `grant` meets its contract: two runs are one walk round.
 -- Assumes nothing.
-use mathlib.Core.Path.{◌≡◌, refl, ◌∙◌}
-use native.Mathlib.Omega.{arith}
-use lib.ListN.{replicate}
-use Rattle.rules.proofs.Walk.Laws as Walk
-use Rattle.arbiter.specs.Decisions.Laws.{walked}
+use Rattle.std.proofs.Common.{length, ◌≡◌, ◌∙◌}
+use Rattle.rules.specs.RoundRobin.{grants}
+use Rattle.arbiter.specs.Decisions.{requested, decision, counted}
+use Rattle.arbiter.specs.Decisions.Laws as Decisions
 use Rattle.scan.proofs.ScanRoundRobin.grant.Goals as goal
 
-pub walk_run-half-requires : goal.walk_run-half-requires
-walk_run-half-requires c =
-    let r = c.requires in omega (arith, c.first_station-first.ensures, r.allows.station, r.lends.asked, r.lends.room)
+round : (c : goal.After-decide)
+    → let y = c.args.cycle.now in
+    let n = length y.requests.now in
+    let walk = c.walk_run-walk in
+    (counted n y.head walk.result.count walk.result.last ≡ decision n y.picks y.head (requested y.requests.now))
+    × (walk.new.grants ≡ grants n y.picks y.head (requested y.requests.now))
+round c =
+    let y = c.args.cycle.now in
+    let n = length y.requests.now in
+    Decisions.round n y.picks y.head (requested y.requests.now) y.head_bound c.first_station-first.ensures (c.fill.ensures.after (λ _ e. e)) y.grants_len c.walk_run-half.ensures c.walk_run-walk.ensures
 
-pub walk_run-walk-requires : goal.walk_run-walk-requires
-walk_run-walk-requires c =
-    let r = c.requires in
-    omega (
-      arith,
-      c.first_station-first.ensures,
-      r.allows.station,
-      r.lends.asked,
-      r.lends.room,
-      c.walk_run-half.auto.grants,
-      c.walk_run-half.ensures.counted,
-    )
+pub returns-clause-value : goal.returns-clause-value
+returns-clause-value c = c.decide.ensures ∙ (round c).0
 
-pub returns : goal.returns
-returns c =
-    let r = c.requires in
-    let e = c.first_station-first.ensures in
-    let zeros : c.fill.new.self ≡ replicate c.args.width 0 = c.fill.ensures.after (λ y e. e) ∙ rw r.lends.room in
-    let w = Walk.round _ _ _ _ r.allows.station _ _ _ _ _ _ (Walk.told e refl zeros c.walk_run-half.ensures) (Walk.told refl e refl c.walk_run-walk.ensures) in
-    record { value = c.decide.ensures ∙ walked _ _ _ _ w; grants_after = w.bytes }
+pub returns-clause-grants_after : goal.returns-clause-grants_after
+returns-clause-grants_after c = (round c).1

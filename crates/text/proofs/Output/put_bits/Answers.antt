@@ -1,4 +1,5 @@
 -- `put_bits` meets its contract: each turn writes the character of one bit more.
+-- Named on the function, `map_more` and `written_then` do not close it: the search comes to a limit.
 -- Assumes nothing.
 use Rattle.std.proofs.Common.{arith}
 use Rattle.std.proofs.lemmas.List.{map_more}

@@ -1,13 +1,11 @@
 -- `grant` meets its contract: two runs are one walk round.
 -- Assumes nothing.
-use Prim.Native.Nat.{ℕ}
-use mathlib.Core.Path.{◌≡◌, refl, ap, ◌∙◌}
-use native.Mathlib.Omega.{arith}
-use lib.ListN.{replicate}
+use Rattle.std.proofs.Common.{length, ◌≡◌, refl, ap, ◌∙◌, arith}
+use Rattle.std.specs.Int.Count.{ones}
+use Rattle.rules.specs.RoundRobin.{grants}
 use Rattle.rules.proofs.Thermometer.Laws.{zero_ones, zero_is_code}
-use Rattle.rules.proofs.Walk.Laws as Walk
-use Rattle.arbiter.specs.Decisions.{counted}
-use Rattle.arbiter.specs.Decisions.Laws.{walked}
+use Rattle.arbiter.specs.Decisions.{requested, decision, counted}
+use Rattle.arbiter.specs.Decisions.Laws as Decisions
 use Rattle.thermometer.proofs.Runs.Laws.{hands_code, to_counts}
 use mir.Syntax.{Args, fn, fn₀}
 use Rattle.arbiter.specs.Trace.{trace, end, calls, leaves}
@@ -23,26 +21,33 @@ two_runs : (bytes : Args)
 two_runs = (_, refl)
 
 pub count_run-half-requires-clause-code_value : goal.count_run-half-requires-clause-code_value
-count_run-half-requires-clause-code_value c = zero_is_code c.args.picks
+count_run-half-requires-clause-code_value c = zero_is_code c.args.cycle.now.picks
 
 -- the code that the first run hands on
 pub count_run-walk-requires-clause-code_value : goal.count_run-walk-requires-clause-code_value
 count_run-walk-requires-clause-code_value c =
-    hands_code _ _ _ _ _ _ _ _ (zero_is_code c.args.picks) (omega (arith, c)) c.count_run-half.ensures
+    hands_code _ _ _ _ _ _ _ _ (zero_is_code c.args.cycle.now.picks) (omega (arith, c)) c.count_run-half.ensures
 
-pub returns : goal.returns
-returns c =
-    let a = c.args in
-    let r = c.requires in
-    let e = c.first_station-first.ensures in
-    let none = zero_is_code a.picks in
-    let zeros : c.fill.new.self ≡ replicate a.width 0 = c.fill.ensures.after (λ y e. e) ∙ rw r.lends.room in
+round : (c : goal.After-decide)
+    → let y = c.args.cycle.now in
+    let n = length y.requests.now in
+    let walk = c.count_run-walk in
+    (counted n y.head (ones walk.result.code) walk.result.last ≡ decision n y.picks y.head (requested y.requests.now))
+    × (walk.new.grants ≡ grants n y.picks y.head (requested y.requests.now))
+round c =
+    let y = c.args.cycle.now in
+    let n = length y.requests.now in
+    let none = zero_is_code y.picks in
     let half = to_counts _ _ _ _ _ _ _ _ none (omega (arith, c)) c.count_run-half.ensures in
     let coded = hands_code _ _ _ _ _ _ _ _ none (omega (arith, c)) c.count_run-half.ensures in
     let rest = to_counts _ _ _ _ _ _ _ _ coded (omega arith) c.count_run-walk.ensures in
-    let first = rw zero_ones at (Walk.told e refl zeros half) in
-    let w = Walk.round _ _ _ _ r.allows.station _ _ _ _ _ _ first (Walk.told refl e refl rest) in
-    record {
-      value = c.decide.ensures ∙ ap (λ (x : ℕ). counted a.width a.head x c.count_run-walk.result.last) c.count-count.ensures ∙ walked _ _ _ _ w;
-      grants_after = w.bytes;
-    }
+    Decisions.round n y.picks y.head (requested y.requests.now) y.head_bound c.first_station-first.ensures (c.fill.ensures.after (λ _ e. e)) y.grants_len (rw zero_ones at half) rest
+
+pub returns-clause-value : goal.returns-clause-value
+returns-clause-value c =
+    let y = c.args.cycle.now in
+    let n = length y.requests.now in
+    c.decide.ensures ∙ ap (λ x. counted n y.head x c.count_run-walk.result.last) c.count-count.ensures ∙ (round c).0
+
+pub returns-clause-grants_after : goal.returns-clause-grants_after
+returns-clause-grants_after c = (round c).1

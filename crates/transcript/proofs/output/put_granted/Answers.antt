@@ -1,4 +1,5 @@
 -- `put_granted` meets its contract: the pieces of the line, one after the other.
+-- Named on the function, `written_then` does not close it: the search comes to a limit.
 -- Assumes nothing.
 use Rattle.std.proofs.Common.{rules}
 use Rattle.text.specs.Output.Laws.{written_then}

@@ -1,7 +1,7 @@
 -- `print_line` meets its contract. The part of the grant buffer that is lent is all 0.
 -- Assumes nothing.
-use Rattle.transcript.proofs.Zeros.{lent}
+use Rattle.std.proofs.lemmas.List.{take-replicate}
 use Rattle.transcript.proofs.cycles.Progress.print_line.Goals as goal
 
 pub cycle-answer-requires : goal.cycle-answer-requires
-cycle-answer-requires c = lent _ _ c.args.self.wide
+cycle-answer-requires c = take-replicate _ _ 0 c.args.self.wide

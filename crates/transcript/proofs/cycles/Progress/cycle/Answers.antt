@@ -1,0 +1,15 @@
+-- `cycle` meets its contract. The part of the node buffer that is lent is all 0.
+-- Assumes nothing.
+use Rattle.std.proofs.Common.{ℕ, ◌*◌, arith, rules}
+use Rattle.std.proofs.lemmas.List.{take-replicate}
+use Rattle.arbiter.specs.Questions.{max_width}
+use Rattle.transcript.specs.Cycles.{cycle}
+use Rattle.transcript.proofs.cycles.Progress.cycle.Goals as goal
+
+pub returns-in-RoundRobin-empty : goal.returns-in-RoundRobin-empty
+unfolding cycle
+returns-in-RoundRobin-empty c =
+    let zeros = take-replicate {X = ℕ} (2 * c.args.self.state.width) (2 * max_width) 0 (omega (arith, c.args.self.wide)) in
+    let value = rw (zeros, c.requires) at c.cycle.ensures.value in
+    let grants = rw (zeros, c.requires) at c.cycle.ensures.grants_after in
+    record { value = search rules; grants_after = search rules }
