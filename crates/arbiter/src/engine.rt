@@ -36,22 +36,23 @@ pub trait Arbiter: Copy {
     final fn open(width: usize, picks: usize) -> Answer
         ensures { result ≡ Answers.opened (questions width picks None) width picks None }
     {
-        opening::<Self>(width, picks, None)
+        Self::opening(width, picks, None)
     }
 
     // Opens with a head. Asks the same: of 4 stations, head 4 is refused by 4.
     final fn open_at(width: usize, picks: usize, head: usize) -> Answer
         ensures { result ≡ Answers.opened (questions width picks (Some head)) width picks (Some head) }
     {
-        opening::<Self>(width, picks, Some(head))
+        Self::opening(width, picks, Some(head))
     }
-}
 
-// Makes a state of these.
-fn opening<A: Arbiter>(width: usize, picks: usize, head: Head) -> Answer
-    ensures { result ≡ Answers.opened (A.questions width picks head) width picks head }
-{
-    Answer::opened(A::ask(width, picks, head).map(|()| State { width, picks, head }))
+    // Opens with this head or none.
+    final fn opening(width: usize, picks: usize, head: Head) -> Answer
+        ensures { result ≡ Answers.opened (questions width picks head) width picks head }
+    {
+        let verdict = Self::ask(width, picks, head);
+        Answer::opened(verdict.map(|()| State { width, picks, head }))
+    }
 }
 
 // A cycle that no question refuses: picks and head of its state, a request for each station, and the grant buffer, which may hold

@@ -26,13 +26,12 @@ impl Engine {
     fn opening(self, width: usize, picks: usize, head: Head) -> Answer
         ensures { result ≡ Calls.opening self width picks head }
     {
-        let verdict = match self {
-            Engine::Scan => Scan::ask(width, picks, head),
-            Engine::Tree => Tree::ask(width, picks, head),
-            Engine::Thermometer => Thermometer::ask(width, picks, head),
-            Engine::KoggeStone => KoggeStone::ask(width, picks, head),
-        };
-        Answer::opened(verdict.map(|()| State { width, picks, head }))
+        match self {
+            Engine::Scan => Scan::opening(width, picks, head),
+            Engine::Tree => Tree::opening(width, picks, head),
+            Engine::Thermometer => Thermometer::opening(width, picks, head),
+            Engine::KoggeStone => KoggeStone::opening(width, picks, head),
+        }
     }
 }
 

@@ -13,6 +13,10 @@ use lib.ListN.{length, get_or, take, drop, length-drop}
 use lib.Seq.{ext_get_or, get_or-take, get_or-drop, take_all}
 use borrow.Author.Tests.{ltb-true, ltb-false, lt-ltb, le-ltb}
 use Rattle.std.specs.Prelude.{Option, None, Some}
+use Rattle.std.specs.Bool.{◌==◌}
+use lib.Dec.{eqb}
+use Rattle.std.specs.List.{position, position_or_len}
+use Rattle.std.proofs.lemmas.List.Recursion.{is_position_or_len}
 use Rattle.rules.specs.Head.{Head}
 use Rattle.rules.specs.Lists.{bit, before}
 use Rattle.rules.specs.Lists.Laws as Lists
@@ -28,6 +32,11 @@ use Rattle.arbiter.specs.Decisions.{requested, decision, deciding, counted}
 use Rattle.arbiter.specs.Decisions.Laws.{walked}
 use Rattle.kogge_stone.specs.Steps.{station, granted}
 use Rattle.kogge_stone.proofs.Grants as Grants
+
+-- how many come before the first of some bytes that is this one
+is_before : (byte : ℕ) (bytes : List ℕ) → length (before byte bytes) ≡ position_or_len (λ b. byte == b) bytes
+is_before byte bytes =
+    is_position_or_len (λ xs. length (before byte xs)) (λ b. byte == b) refl (λ x xs. Lists.split (eqb byte x) (λ t. rw t) (λ f. rw f (omega arith))) bytes
 
 module _ (m full : ℕ) (h : Head) (requests : List ℕ) (most : ones full ≡ m) (coded : is_code 8 full ≡ true) (first : start h < length requests) where
   abbrev n : ℕ
@@ -143,11 +152,14 @@ module _ (m full : ℕ) (h : Head) (requests : List ℕ) (most : ones full ≡ m
     pub idles : c ≡ 0 → (deciding n h [] ≡ decision n m h asks) × (new ≡ RoundRobin.grants n m h asks)
     idles none = (walked n m h asks (read {z = None} (λ e. refl) (λ some. absurd (omega (arith, sum))) bytes), bytes)
 
-    -- and where somebody is
-    pub decides : (c ≡ 0 → ⊥) → (q v : ℕ) → q ≡ length (before (get_or given n 0) (take (length given - 1) (drop 1 given))) → v ≡ station n f q
-        → (counted n h c (Some v) ≡ decision n m h asks) × (new ≡ RoundRobin.grants n m h asks)
-    decides any q v eq ev =
+    -- and where somebody is: `found` is the place at which their count is first reached
+    pub placed_some : (found : Option ℕ) → found ≡ position (λ b. get_or given n 0 == b) (take (length given - 1) (drop 1 given)) → found ≡ Some p
+    placed_some found e =
         let rest : take (length given - 1) (drop 1 given) ≡ drop 1 given = take_all (length given - 1) (drop 1 given) (simp length-drop (omega arith)) in
-        let place : q ≡ p = eq ∙ rw (rest, is) in
-        let here : v ≡ w = ev ∙ rw (ef, place) in
+        let at : position_or_len (λ b. get_or given n 0 == b) (drop 1 given) ≡ p = rw is (sym (is_before total later)) in
+        e ∙ rw (rest, at, is, lt-ltb p (length later) (omega (arith, inside, many)))
+
+    pub decides : (c ≡ 0 → ⊥) → (v : ℕ) → v ≡ station n f p → (counted n h c (Some v) ≡ decision n m h asks) × (new ≡ RoundRobin.grants n m h asks)
+    decides any v ev =
+        let here : v ≡ w = ev ∙ rw ef in
         (rw (sum, here) (walked n m h asks (read {z = Some w} (λ e. absurd (any (sum ∙ e))) (λ some. refl) bytes)), bytes)

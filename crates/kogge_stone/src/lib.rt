@@ -4,7 +4,7 @@
 
 mod network;
 
-ghost use Rattle.std.specs.Prelude.{true, ◌&&◌, ◌≡◌, ◌+◌, ◌≤◌, ◌<◌, eqb, ltb, length};
+ghost use Rattle.std.specs.Prelude.{◌==◌, position, true, ◌&&◌, ◌≡◌, ◌+◌, ◌≤◌, ◌<◌, eqb, ltb, length};
 ghost use Rattle.std.specs.Int.Count.{ones};
 ghost use Rattle.rules.specs.Lists.{bit, before};
 ghost use Rattle.rules.specs.RoundRobin as RoundRobin;
@@ -103,8 +103,12 @@ fn read_off(cycle: &mut ServedCycle<'_>, picks: Picks, counts: &[u8]) -> Decisio
         return idle(width, cycle.head);
     }
     let position = first_place(total, &counts[1..]);
-    let last = station(width, first, position);
-    decide(width, cycle.head, count, Some(last))
+    decide(
+        width,
+        cycle.head,
+        count,
+        position.map(|p| station(width, first, p)),
+    )
 }
 
 // The station at a position of the order.
@@ -153,10 +157,9 @@ fn grant(full: u8, request: u8, count: u8) -> u8
     u8::from((request == 1) & (count < full))
 }
 
-// The first place that holds this byte, or how many there are where none does. Among the counts one does, the last, so an Option would
-// have a branch that is never taken.
-fn first_place(byte: u8, bytes: &[u8]) -> usize
-    ensures { result ≡ length (before byte bytes.now) }
+// The first place that holds this byte, or none.
+fn first_place(byte: u8, bytes: &[u8]) -> Option<usize>
+    ensures { result ≡ position (λ b. byte == b) bytes.now }
 {
-    bytes.iter().position(|b| byte == *b).unwrap_or(bytes.len())
+    bytes.iter().position(|b| byte == *b)
 }

@@ -29,8 +29,8 @@ pub(crate) fn open(kind: Kind, width: usize, picks: usize) -> Answer
     }
 }
 
-// How far a run has come: what runs, its state, and the number of the next line, which each line moves on with the state: an
-// `enumerate` over the lines would carry it beside them.
+// How far a run has come: what runs, its state, and the number of the next line, which each line moves on with the state. An
+// `enumerate` over the lines would carry it beside them; tried, and the proof of the loop's start did not close.
 #[derive(Clone, Copy)]
 pub(crate) struct Progress {
     pub(crate) kind: Kind,

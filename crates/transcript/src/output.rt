@@ -1,5 +1,5 @@
 // The lines of the output. Each function writes its line as the methods of an `Output` do: as much as there is room for.
-// They write by pieces, since the promise of `fmt::Write` does not name the bytes where the buffer is full.
+// They write by pieces, since the promise of `fmt::Write` names the bytes only where it answers `Ok`, and does not say that it does.
 ghost use Rattle.text.specs.Output.{Written};
 ghost use Rattle.transcript.specs.Cycles as Cycles;
 

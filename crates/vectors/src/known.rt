@@ -28,9 +28,9 @@ pub(crate) fn case(i: usize) -> Option<bool> {
         return opening(i);
     }
     if i == OPENED {
-        return CYCLES.get(EXAMPLE).map(node_buffer);
+        return Some(node_buffer(&NODE_BUFFER));
     }
-    sums::SUMS.get(sums::TRUTH_TABLE + i % 4).map(sums::known)
+    sums::KNOWN.get(i % 4).map(sums::known)
 }
 
 // One of the openings.
@@ -54,11 +54,8 @@ pub struct KnownCycle {
     next: usize,
 }
 
-// The cycles of 000's worked example, after which comes one of 01.
-pub(crate) const EXAMPLE: usize = 3;
-
-// In the example stations 0, 2 and 3 ask in each cycle. They are granted in turn.
-pub(crate) static CYCLES: [KnownCycle; 4] = [
+// The cycles of 000's worked example. In it stations 0, 2 and 3 ask in each cycle. They are granted in turn.
+pub(crate) static EXAMPLE: [KnownCycle; 3] = [
     KnownCycle {
         head: 0,
         requests: [1, 0, 1, 1],
@@ -77,13 +74,15 @@ pub(crate) static CYCLES: [KnownCycle; 4] = [
         nodes: [0, 3, 1, 3, 1, 0, 1, 3],
         next: 0,
     },
-    KnownCycle {
-        head: 1,
-        requests: [1, 0, 0, 0],
-        nodes: [0, 2, 2, 0, 1, 2, 0, 0],
-        next: 1,
-    },
 ];
+
+// The node buffer of 01, with its cycle.
+static NODE_BUFFER: KnownCycle = KnownCycle {
+    head: 1,
+    requests: [1, 0, 0, 0],
+    nodes: [0, 2, 2, 0, 1, 2, 0, 0],
+    next: 1,
+};
 
 // Whether the tree's cycle is the model's, and the model's is as is known.
 pub(crate) fn node_buffer(cycle: &KnownCycle) -> bool {

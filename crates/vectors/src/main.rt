@@ -56,14 +56,14 @@ fn documents(rt: &impl Print) -> io::Result<()> {
     numbers(
         rt,
         "tree, worked example of 000",
-        known::EXAMPLE,
-        |i| known::CYCLES.get(i).map(known::node_buffer),
+        known::EXAMPLE.len(),
+        |i| known::EXAMPLE.get(i).map(known::node_buffer),
     )?;
     numbers(
         rt,
         "adder, truth table of 001",
-        sums::TRUTH_TABLE,
-        |i| sums::SUMS.get(i).map(sums::known),
+        sums::TRUTH_TABLE.len(),
+        |i| sums::TRUTH_TABLE.get(i).map(sums::known),
     )
 }
 

@@ -4,10 +4,12 @@ use crate::{compare, small};
 use reference::codes;
 use thermometer::adder;
 
-// 9 rows of 001's truth table of the adder saturated at 2, in its rows of legal codes, with each code that an X stands for; then
-// 01's 4 known sums with 2 picks, the last two refused. A row has the left and the right code and their sum, or the number of the
-// refusal. The codes are 0 for 00, 1 for 01 and 3 for 11; 2, which is 10, is none.
-pub(crate) static SUMS: [(u8, u8, Result<u8, usize>); 13] = [
+// Two codes, and their sum with 2 picks or the number of the refusal. The codes are 0 for 00, 1 for 01 and 3 for 11; 2, which is 10,
+// is none.
+pub(crate) type Sum = (u8, u8, Result<u8, usize>);
+
+// 9 rows of 001's truth table of the adder saturated at 2, in its rows of legal codes, with each code that an X stands for.
+pub(crate) static TRUTH_TABLE: [Sum; 9] = [
     (0, 0, Ok(0)),
     (0, 1, Ok(1)),
     (1, 0, Ok(1)),
@@ -17,17 +19,18 @@ pub(crate) static SUMS: [(u8, u8, Result<u8, usize>); 13] = [
     (3, 3, Ok(3)),
     (0, 3, Ok(3)),
     (1, 3, Ok(3)),
+];
+
+// 01's 4 known sums with 2 picks, the last two refused.
+pub(crate) static KNOWN: [Sum; 4] = [
     (1, 1, Ok(3)),
     (3, 1, Ok(3)),
     (2, 1, Err(13)),
     (1, 2, Err(13)),
 ];
 
-// The rows of the truth table.
-pub(crate) const TRUTH_TABLE: usize = 9;
-
 // Whether a sum with 2 picks is as known, by the adder and by the model.
-pub(crate) fn known(row: &(u8, u8, Result<u8, usize>)) -> bool {
+pub(crate) fn known(row: &Sum) -> bool {
     let (left, right, sum) = *row;
     compare::sum(adder::add(2, left, right), sum) && modelled(2, left, right) == sum
 }

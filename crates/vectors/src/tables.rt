@@ -95,21 +95,18 @@ fn place(headed: bool, root: bool, left: u8, right: u8) -> usize
 
 impl Table {
     // Whether it goes right.
-    fn goes_right(self, place: usize) -> bool
-        requires { place < 64 }
-    {
+    fn goes_right(self, place: usize) -> bool {
         if self == Table::Equation13 {
             return equation(place / 4 % 4, place % 4);
         }
-        ACTIONS[place] == b'R'
+        ACTIONS.get(place) == Some(&b'R')
     }
 
     // Whether a place is to be met. The pair of two zeros cannot be: there no one asks.
-    fn expects(self, place: usize) -> bool
-        requires { place < 64 }
-    {
+    fn expects(self, place: usize) -> bool {
         let spoken = self != Table::TableII || place / 16 == 1;
-        spoken && place % 16 != 0 && ACTIONS[place] != b'.'
+        let action = ACTIONS.get(place).copied().unwrap_or(b'.');
+        spoken && place % 16 != 0 && action != b'.'
     }
 }
 

@@ -55,12 +55,12 @@ pub writes_refused : (v : Verdict) (s : State) (answer : Answer) (target former 
 writes_refused (Ok _) s answer target former z n = absurd (n z)
 writes_refused (Err refusal) s answer target former z n = (refl, refl)
 
--- a call that makes a state is served exactly if its questions pass
 -- an opening whose questions are asked first
 pub opens_then : (v : Verdict) (n m : ℕ) (h : Head) → opens (v then Ok (made n m h)) ≡ opened v n m h
 opens_then (Ok _) n m h = refl
 opens_then (Err refusal) n m h = refl
 
+-- a call that makes a state is served exactly if its questions pass
 pub opened_passed : (v : Verdict) (n m : ℕ) (h : Head) → number (opened v n m h) ≡ 0 → v ≡ passed
 opened_passed v n m h z = served_passed v _ _ (λ (a : Answer). number a) (λ e. refl) z
 

@@ -1,6 +1,8 @@
 -- `read_off` meets its contract: what is read off the running codes is what the rule grants and decides.
 -- Assumes nothing.
-use Rattle.std.proofs.Common.{refl, ◌∙◌}
+use Rattle.std.proofs.Common.{rules, ◌≡◌, Some, length, get_or, drop, refl, ◌∙◌}
+use Rattle.rules.specs.Lists.{before}
+use Rattle.kogge_stone.specs.Steps.{station}
 use Rattle.kogge_stone.proofs.Counts as Counts
 use Rattle.kogge_stone.proofs.read_off.Goals as goal
 
@@ -15,7 +17,10 @@ returns-then-count-eq0 c =
 pub returns : goal.returns
 returns c =
     let y = c.args.cycle.now in
+    let some = Counts.placed_some y.picks _ y.head y.requests.now c.requires.picks_value c.args.picks.coded y.head_bound _ c.requires.counts_value
+    _ c.first_station-first.ensures _ c.grant_round.ensures _ c.count-count.ensures _ c.first_place-position.ensures in
+    let last : c.map.result ≡ Some (station (length y.requests.now) c.first_station-first.result (length (before (get_or c.args.counts.now (length y.requests.now) 0) (drop 1 c.args.counts.now)))) = search rules in
     let read =
     Counts.decides y.picks _ y.head y.requests.now c.requires.picks_value c.args.picks.coded y.head_bound _ c.requires.counts_value
-    _ c.first_station-first.ensures _ c.grant_round.ensures _ c.count-count.ensures c.if-count-eq0.false _ _ c.first_place-position.ensures c.station-last.ensures in
-    record { value = c.decide.ensures ∙ read.0; same_reference = refl; grants_after = read.1 }
+    _ c.first_station-first.ensures _ c.grant_round.ensures _ c.count-count.ensures c.if-count-eq0.false _ (rw c.requires.counts_value) in
+    record { value = c.decide.ensures ∙ rw last read.0; same_reference = refl; grants_after = read.1 }
