@@ -44,7 +44,7 @@ impl Refusal {
         }
     }
 
-    // The place that is refused: 0 except for 8, 10 and 14.
+    // The place that is refused, a number as 01 has it: 0 except for 8, 10 and 14.
     pub fn place(self) -> usize
         ensures { result ≡ Refusals.place self }
     {

@@ -111,7 +111,7 @@ fn read_off(cycle: &mut ServedCycle<'_>, picks: Picks, counts: &[u8]) -> Decisio
     )
 }
 
-// The station at a position of the order.
+// The station at a position of the order. The model for the tests has this by itself, since an engine and its test share no code.
 fn station(width: usize, first: usize, position: usize) -> usize
     requires { first ≤ width }
     ensures { result ≡ Steps.station width first position }

@@ -78,7 +78,7 @@ pub image_written_back : ImageWrittenBack
 image_written_back s bytes former z e =
     let v = OneHot.questions s.width s.picks s.head bytes in
     let t = moved s (OneHot.head_of bytes) in
-    let passes : v ≡ passed = Answers.served_passed v (served 0 t) (λ refusal. refused refusal s) (λ (a : Answer). number a) (λ e. refl) z in
+    let passes : v ≡ passed = Answers.served_passed v (served 0 t) (λ refusal. refused refusal s) (λ (a : Answer). number a) (λ e f. refl) z in
     let r = was_read s.width s.picks s.head bytes passes in
     let a = r.allowed in
     let in-width : start t.head < t.width = omega (arith, shown bytes (omega (arith, r.long, a.some)), r.long) in

@@ -12,12 +12,12 @@ unfoldable pub code : ℕ → ℕ
 code c = get_or codes c 0
 
 -- a byte is no less than a code
-unfoldable pub reaches : ℕ → ℕ → Bool
-reaches byte c = leb c byte
+unfoldable pub reaches_code : ℕ → ℕ → Bool
+reaches_code byte c = leb c byte
 
 -- the count of a code: how many of the codes of 1 to m it is no less than
 unfoldable pub counted : ℕ → ℕ → ℕ
-counted m byte = count_by (reaches byte) (slice_range codes 1 (m + 1))
+counted m byte = count_by (reaches_code byte) (slice_range codes 1 (m + 1))
 
 -- the picks are in 1 to 8
 unfoldable pub allowed : ℕ → Bool

@@ -25,7 +25,7 @@ pub fn sum(picks: usize, left: u8, right: u8) -> Option<u8>
 }
 
 // The count of a code: how many of the codes of 1 to `picks` it is no less than.
-#[tactic(auto, unfolding(crate::specs::Codes::counted, crate::specs::Codes::reaches))]
+#[tactic(auto, unfolding(crate::specs::Codes::counted, crate::specs::Codes::reaches_code))]
 fn counted(picks: usize, byte: u8) -> usize
     requires { picks ≤ 8 }
     ensures { result ≡ Codes.counted picks byte }

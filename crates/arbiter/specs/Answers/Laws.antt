@@ -31,9 +31,9 @@ refusal_number (UnusedBit p) z = omega arith
 
 -- a call that is served has passed its questions: `number` is the number of its answer
 pub served_passed : {A : Type 0} (v : Verdict) (a : A) (b : Refusal → A) (number : A → ℕ)
-    → ((refusal : Refusal) → number (b refusal) ≡ Refusals.number refusal) → number (if_passed v a b) ≡ 0 → v ≡ passed
+    → ((refusal : Refusal) → v ≡ Err refusal → number (b refusal) ≡ Refusals.number refusal) → number (if_passed v a b) ≡ 0 → v ≡ passed
 served_passed (Ok _) a b number e z = refl
-served_passed (Err refusal) a b number e z = absurd (refusal_number refusal (sym (e refusal) ∙ z))
+served_passed (Err refusal) a b number e z = absurd (refusal_number refusal (sym (e refusal refl) ∙ z))
 
 -- and then it is what it is to be
 pub passed_is : {A : Type 0} (v : Verdict) (a : A) (b : Refusal → A) → v ≡ passed → if_passed v a b ≡ a
@@ -42,7 +42,7 @@ passed_is v a b z = rw z
 -- the same of a call that writes
 pub writes_passed : (v : Verdict) (s : State) (answer : Answer) (target former : List ℕ)
     → number (writes v s answer target former).answer ≡ 0 → v ≡ passed
-writes_passed v s answer target former z = served_passed v _ _ (λ (o : Outcome). number o.answer) (λ e. refl) z
+writes_passed v s answer target former z = served_passed v _ _ (λ (o : Outcome). number o.answer) (λ e f. refl) z
 
 pub writes_is : (v : Verdict) (s : State) (answer : Answer) (target former : List ℕ) → v ≡ passed
     → writes v s answer target former ≡ record { answer = answer; written = target }
@@ -62,7 +62,7 @@ opens_then (Err refusal) n m h = refl
 
 -- a call that makes a state is served exactly if its questions pass
 pub opened_passed : (v : Verdict) (n m : ℕ) (h : Head) → number (opened v n m h) ≡ 0 → v ≡ passed
-opened_passed v n m h z = served_passed v _ _ (λ (a : Answer). number a) (λ e. refl) z
+opened_passed v n m h z = served_passed v _ _ (λ (a : Answer). number a) (λ e f. refl) z
 
 pub passed_opened : (v : Verdict) (n m : ℕ) (h : Head) → v ≡ passed → number (opened v n m h) ≡ 0
 passed_opened v n m h z = rw z
@@ -76,6 +76,6 @@ answered_writes (Err refusal) s d target former = (refl, refl)
 
 -- what holds of everything that a refused call may come to holds of what it comes to
 pub if_refused : {A : Type 0} (v : Verdict) (a : A) (b : Refusal → A) (P : A → Type 0) → (v ≡ passed → ⊥)
-    → ((refusal : Refusal) → P (b refusal)) → P (if_passed v a b)
+    → ((refusal : Refusal) → v ≡ Err refusal → P (b refusal)) → P (if_passed v a b)
 if_refused (Ok _) a b P n h = absurd (n refl)
-if_refused (Err refusal) a b P n h = h refusal
+if_refused (Err refusal) a b P n h = h refusal refl

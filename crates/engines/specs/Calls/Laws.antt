@@ -68,7 +68,7 @@ module _ (s : State) (requests former nodes : List ℕ) where
   tree_served : let o = Tree.cycle s requests former nodes in number o.answer ≡ 0 → Served s requests o.answer o.grants
   unfolding Tree.cycle
   tree_served z =
-      let p = served_passed questions _ _ (λ (o : Outcome). number o.answer) (λ e. refl) z in
+      let p = served_passed questions _ _ (λ (o : Outcome). number o.answer) (λ e f. refl) z in
       let r = TreeLaws.ready s.width s.picks s.head requests (length former) (length nodes) p in
       record {
         allows = as_allowed r.allows;
@@ -83,7 +83,7 @@ module _ (s : State) (requests former nodes : List ℕ) where
   tree_refused n =
       if_refused questions _ _ (λ (o : Outcome). (o.answer.state ≡ s) × (o.grants ≡ former) × (o.nodes ≡ nodes))
       (λ p. n (ap (λ (o : Outcome). number o.answer) (passed_is questions _ _ p)))
-      (λ e. (refl, refl, refl))
+      (λ e f. (refl, refl, refl))
 
 -- so every cycle is served by the rule
 pub engine_served : (e : Engine) (s : State) (requests former nodes : List ℕ)

@@ -4,7 +4,7 @@ use Rattle.std.specs.Prelude.{ℕ, ◌-◌, ◌≤◌, ◌≡◌, List, [], ◌�
 use Rattle.std.specs.List.{range_with_len, reduce}
 use Rattle.std.proofs.Common.{arith}
 use Rattle.std.proofs.lemmas.Bool.Decides.{nat_tests}
-use Rattle.reference.specs.Turns.{wrapped, distance, granted, reach}
+use Rattle.reference.specs.Turns.{wrapped, distance, granted, reach, some}
 use Rattle.reference.specs.declared.Cycle.{Cycle}
 
 -- no station is a whole round away
@@ -25,3 +25,8 @@ reduce_le f b le (x ∷ xs) most e = grind (arith, fold_le f b le xs (f x) (le x
 pub reach_le : (c : Cycle) (far : ℕ) → reach c ≡ Some far → far ≤ c.width - 1
 unfolding reach
 reach_le c far e = reduce_le (distance c) (c.width - 1) (distance_le c) (filter (granted c) (range_with_len 0 c.width)) far e
+
+-- a count as a bit is one
+pub some_le : (k : ℕ) → some k ≤ 1
+unfolding some
+some_le k = grind (arith, nat_tests)

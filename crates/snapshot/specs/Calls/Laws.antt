@@ -1,7 +1,7 @@
 -- Laws of the snapshot.
 -- Assumes nothing.
 use Rattle.std.specs.Int.{from_bool}
-use Rattle.std.specs.Prelude.{ℕ, ◌+◌, ◌-◌, ◌*◌, ◌/◌, ◌%◌, ◌<◌, ◌≤◌, ◌≡◌, refl, cond, ◌||◌, List, [], ◌∷◌, eqb, length, get_or}
+use Rattle.std.specs.Prelude.{ℕ, ◌+◌, ◌-◌, ◌*◌, ◌/◌, ◌%◌, ◌<◌, ◌≤◌, ◌≡◌, refl, cond, ◌||◌, List, [], ◌∷◌, eqb, length, get_or, set}
 use Rattle.std.proofs.Common.{is_some, sym, ap, arith, eq-eqb, ne_eqb, eqb-true}
 use Rattle.std.proofs.lemmas.Bool.{eqb-false}
 use Rattle.rules.specs.Head.{Head}
@@ -18,6 +18,18 @@ use Rattle.arbiter.specs.Words.{number}
 use Rattle.arbiter.specs.Answers.{made, served, refused, nothing}
 use Rattle.snapshot.specs.declared.Fields.{Fields}
 use Rattle.snapshot.specs.Calls.{size, short_size, mark, head_bytes, saved, long_fields, short_fields, fields, marked, read_length, no_stray, allowed, long_questions, short_questions, questions, read}
+
+-- six bytes that are all set
+pub six_set : (a b c d f g : ℕ) (l : List ℕ) → length l ≡ size
+    → set (set (set (set (set (set l 0 a) 1 b) 2 c) 3 d) 4 f) 5 g ≡ a ∷ b ∷ c ∷ d ∷ f ∷ g ∷ []
+six_set a b c d f g [] e = absurd (omega arith)
+six_set a b c d f g (h ∷ []) e = absurd (omega arith)
+six_set a b c d f g (h ∷ i ∷ []) e = absurd (omega arith)
+six_set a b c d f g (h ∷ i ∷ j ∷ []) e = absurd (omega arith)
+six_set a b c d f g (h ∷ i ∷ j ∷ k ∷ []) e = absurd (omega arith)
+six_set a b c d f g (h ∷ i ∷ j ∷ k ∷ l ∷ []) e = absurd (omega arith)
+six_set a b c d f g (h ∷ i ∷ j ∷ k ∷ l ∷ m ∷ []) e = refl
+six_set a b c d f g (h ∷ i ∷ j ∷ k ∷ l ∷ m ∷ o ∷ r) e = absurd (omega arith)
 
 -- a list of six
 pub six : (l : List ℕ) → length l ≡ size → l ≡ get_or l 0 0 ∷ get_or l 1 0 ∷ get_or l 2 0 ∷ get_or l 3 0 ∷ get_or l 4 0 ∷ get_or l 5 0 ∷ []
