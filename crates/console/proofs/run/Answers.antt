@@ -1,7 +1,7 @@
 -- `run`: what was read is the input as far as `transcript` looks, and what is written is its text.
 -- Assumes nothing.
 use Rattle.std.specs.Prelude.{Option, None, Some, Result, Ok, Err, OnOk, IfSome}
-use Rattle.std.proofs.Common.{◌≡◌, ℕ, List, ◌++◌, length, take, sym, ap, ◌∙◌, subst}
+use Rattle.std.proofs.Common.{rules, ◌≡◌, ℕ, List, ◌++◌, length, take, sym, ap, ◌∙◌, subst}
 use Rattle.std.specs.Option.{option_map}
 use Rattle.std.proofs.lemmas.List.{take_at}
 use Rattle.std.specs.Io.KnownBytes.{Appends}
@@ -21,6 +21,6 @@ written (Ok v) (Some xs) before after bytes out former n held long is wrote =
 pub returns : goal.returns
 returns g c =
     written c.write_all.result (g.R.Read.remaining c.args.input.now) _ _ c.as_slice.result.now _ _ _
-    (rw (c.new-bytes.ensures, c.take.ensures.limit, c.take.ensures.inner, ← c.as_slice.ensures.value) at c.in_ok-copy.ensures.bytes)
+    (search rules)
     c.run-length.ensures.value c.run-length.ensures.output_after
     c.write_all.ensures.bytes
