@@ -1,6 +1,6 @@
 -- The states and answers that calls return: 01, "Questions each call asks", its last paragraph.
 -- Assumes nothing.
-use Rattle.std.specs.Prelude.{ℕ, List, None, Result, Ok, Err}
+use Rattle.std.specs.Prelude.{ℕ, false, List, None, Result, Ok, Err}
 use Rattle.rules.specs.Head.{Head}
 use Rattle.arbiter.specs.declared.Answer.{Answer}
 use Rattle.arbiter.specs.declared.Decision.{Decision}
@@ -47,17 +47,17 @@ place a = place_of a.outcome
 abbrev pub count : Answer → ℕ
 count a = count_of a.outcome
 
--- a served call: the count of grants and the state
-abbrev pub served : ℕ → State → Answer
-served count s = record { outcome = Ok count; state = s }
+-- a served call that is no cycle: count 0 and the state; more are pending (02, N5) in cycles alone
+abbrev pub served : State → Answer
+served s = record { outcome = Ok 0; state = s; more = false }
 
--- a served cycle given the state s: the count of grants, and the state with the next head
+-- a served cycle given the state s: the count of grants, the state with the next head, and whether more are pending
 abbrev pub decided : State → Decision → Answer
-decided s d = served d.count (moved s d.next)
+decided s d = record { outcome = Ok d.count; state = moved s d.next; more = d.more }
 
--- a refused call: its refusal "and the state as given"
+-- a refused call: its refusal "and the state as given"; "a refusal says no" (02, N5)
 abbrev pub refused : Refusal → State → Answer
-refused refusal s = record { outcome = Err refusal; state = s }
+refused refusal s = record { outcome = Err refusal; state = s; more = false }
 
 -- a call that was given the state s
 abbrev pub answered : State → Result Decision Refusal → Answer
@@ -71,12 +71,12 @@ if_passed (Err refusal) a b = b refusal
 
 -- a call that makes a state, or refuses to
 abbrev pub opens : Result State Refusal → Answer
-opens (Ok s) = served 0 s
+opens (Ok s) = served s
 opens (Err refusal) = refused refusal nothing
 
 -- a call that makes the state of N, m and a head
 abbrev pub opened : Verdict → ℕ → ℕ → Head → Answer
-opened v n m h = if_passed v (served 0 (made n m h)) (λ refusal. refused refusal nothing)
+opened v n m h = if_passed v (served (made n m h)) (λ refusal. refused refusal nothing)
 
 -- what a call that writes a buffer leaves: its answer, and the bytes that the buffer then holds
 pub record Outcome : Type 0 where

@@ -19,7 +19,7 @@ opening n m h = opened (Questions.state n m h) n m h
 abbrev pub asking : State → List ℕ → ℕ → Bool
 asking s requests = requested requests
 
--- the answer of a served cycle: how many are granted, and the state with the next head
+-- the answer of a served cycle: how many are granted, the state with the next head, and whether more are pending
 abbrev pub answer : State → List ℕ → Answer
 answer s requests = decided s (decision s.width s.picks s.head (asking s requests))
 

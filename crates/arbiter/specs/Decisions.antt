@@ -1,8 +1,9 @@
--- What a cycle by the round-robin rule decides, apart from any state: 01, "The turn rule".
+-- What a cycle by the round-robin rule decides, apart from any state: 01, "The turn rule", and 02, N5.
 -- Assumes nothing.
-use Rattle.std.specs.Prelude.{ℕ, ◌+◌, Bool, cond, List, [], eqb, ltb, length, get_or, Option, None, Some}
+use Rattle.std.specs.Prelude.{ℕ, ◌+◌, Bool, false, cond, List, [], eqb, ltb, length, get_or, Option, None, Some}
 use Rattle.rules.specs.Head.{Head}
 use Rattle.rules.specs.RoundRobin.{granted, after, next}
+use Rattle.rules.specs.Pending.{more}
 use Rattle.arbiter.specs.declared.Decision.{Decision}
 pub mod Laws
 pub mod OnePick
@@ -11,23 +12,24 @@ pub mod OnePick
 abbrev pub requested : List ℕ → ℕ → Bool
 requested bytes w = eqb (get_or bytes w 0) 1
 
--- how many are granted, and the next head
+-- how many are granted, the next head, and whether more are pending: some asking station is not granted (02, N5)
 abbrev pub decision : ℕ → ℕ → Head → (ℕ → Bool) → Decision
-decision n m h asks = record { count = length (granted n m h asks); next = next n m h asks }
+decision n m h asks =
+    let gs = granted n m h asks in record { count = length gs; next = next n m h asks; more = more n asks gs }
 
--- the same told by whom the cycle grants
-abbrev pub deciding : ℕ → Head → List ℕ → Decision
-deciding n h gs = record { count = length gs; next = after n h gs }
+-- the same told by whom the cycle grants, and whether more are pending
+abbrev pub deciding : ℕ → Head → List ℕ → Bool → Decision
+deciding n h gs pending = record { count = length gs; next = after n h gs; more = pending }
 
--- what a call decides that is no cycle: nobody is granted, and the head is this
+-- what is decided where nobody is granted and no more are pending: the head is this
 abbrev pub headed : Head → Decision
-headed h = record { count = 0; next = h }
+headed h = record { count = 0; next = h; more = false }
 
 -- one past station w of n, and 0 after the last
 abbrev pub past : ℕ → ℕ → ℕ
 past n w = cond (ltb (w + 1) n) (w + 1) 0
 
--- the same as deciding, told by how many are granted and whom the cycle grants last, if anyone
-abbrev pub counted : ℕ → Head → ℕ → Option ℕ → Decision
-counted n h c None = deciding n h []
-counted n h c (Some w) = record { count = c; next = Some (past n w) }
+-- the same as deciding, told by how many are granted and whom the cycle grants last; where it grants no one, nobody asks
+abbrev pub counted : ℕ → Head → ℕ → Option ℕ → Bool → Decision
+counted n h c None pending = deciding n h [] false
+counted n h c (Some w) pending = record { count = c; next = Some (past n w); more = pending }

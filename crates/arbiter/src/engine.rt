@@ -1,5 +1,6 @@
 // What arbiters do alike. Each is a state that its kind serves, and a call is a method on it.
-ghost use Rattle.std.specs.Prelude.{ℕ, ◌≡◌, length, Ok};
+ghost use lib.Pointwise.{pointwise};
+ghost use Rattle.std.specs.Prelude.{ℕ, eqb, not, nat_eq, ◌&&◌, ◌≡◌, length, Ok};
 ghost use Rattle.rules.specs.Head as Heads;
 ghost use Rattle.rules.specs.RoundRobin as Rule;
 ghost use Rattle.arbiter.specs.declared.State as States;
@@ -72,6 +73,23 @@ pub struct ServedCycle<'a> {
     ghost bits: { Bits requests.now },
 }
 
+impl ServedCycle<'_> {
+    // Whether more are pending, where the grants are written and `count` stations are granted: if all picks are used, and somebody asks
+    // who is not granted.
+    pub fn pending(&self, count: usize) -> bool
+        ensures { result ≡ (eqb count self.now.picks && not (pointwise nat_eq self.now.requests.now self.now.grants.now)) }
+    {
+        count == self.picks && differ(self.requests, self.grants)
+    }
+}
+
+// Whether these bytes are not the same ones. The two are lent for times of their own, so the comparison stands in a function.
+fn differ(left: &[u8], right: &[u8]) -> bool
+    ensures { result ≡ not (pointwise nat_eq left.now right.now) }
+{
+    *left != *right
+}
+
 // An arbiter that grants by the round-robin rule, a byte for each station.
 pub trait RoundRobin: Arbiter {
     // Writes the grants of a cycle, and says what it decides.
@@ -80,8 +98,8 @@ pub trait RoundRobin: Arbiter {
         ensures same_reference { cycle.new.grants.ghost_name ≡ cycle.old.grants.ghost_name }
         ensures grants_after { cycle.new.grants.now ≡ Rule.grants (length cycle.old.requests.now) cycle.old.picks cycle.old.head (requested cycle.old.requests.now) };
 
-    // One cycle: writes the grants of these requests, and answers with their count and the next state. Asks 1, 3, 4, 5, 6
-    // and 8. With 4 stations, 2 picks, head 3 and all asking it grants 3 and 0, and the next head is 1.
+    // One cycle: writes the grants of these requests, and answers with their count, the next state, and whether more are pending.
+    // Asks 1, 3, 4, 5, 6 and 8. With 4 stations, 2 picks, head 3 and all asking it grants 3 and 0, the next head is 1, and more are.
     final fn cycle(self, requests: &[u8], grants: &mut [u8]) -> Answer
         ensures value { result ≡ (Cycle.cycle (Self.state_of self) requests.now grants.old).answer }
         ensures grants_after { grants.new ≡ (Cycle.cycle (Self.state_of self) requests.now grants.old).written }

@@ -6,7 +6,7 @@ pub mod question;
 pub mod refusal;
 pub mod search;
 
-ghost use Rattle.std.specs.Prelude.{[], ◌≡◌};
+ghost use Rattle.std.specs.Prelude.{[], false, ◌≡◌};
 ghost use Rattle.rules.specs.RoundRobin.{start};
 ghost use Rattle.arbiter.specs.Answers as Answers;
 ghost use Rattle.arbiter.specs.Decisions as Decisions;
@@ -29,23 +29,26 @@ pub struct State {
     pub head: Head,
 }
 
-// What a call answers: the count of grants where it was served (0 for a call that is no cycle), and else its refusal; and the state.
+// What a call answers: the count of grants where it was served (0 for a call that is no cycle), and else its refusal; the state; and
+// whether more are pending (N5), which is no for a call that is no cycle, and for a refusal.
 #[derive(Clone, Copy, Debug, PartialEq, Eq)]
 pub struct Answer {
     pub outcome: Result<usize, Refusal>,
     pub state: State,
+    pub more: bool,
 }
 
-// What a cycle decides, apart from any state: how many are granted, and the next head.
+// What a cycle decides, apart from any state: how many are granted, the next head, and whether a station asks that is not granted.
 #[derive(Clone, Copy, Debug, PartialEq, Eq)]
 pub struct Decision {
     pub count: usize,
     pub next: Head,
+    pub more: bool,
 }
 
 impl State {
-    // The answer of a call that was given this state: served, with the count of grants and this state with the next head; refused,
-    // with the state as it is.
+    // The answer of a call that was given this state: served, with what is decided and this state with the next head; refused, with
+    // the state as it is.
     pub fn answer(self, decided: Result<Decision, Refusal>) -> Answer
         ensures { result ≡ Answers.answered self decided }
     {
@@ -56,10 +59,12 @@ impl State {
                     head: decision.next,
                     ..self
                 },
+                more: decision.more,
             },
             Err(refusal) => Answer {
                 outcome: Err(refusal),
                 state: self,
+                more: false,
             },
         }
     }
@@ -73,32 +78,34 @@ impl Answer {
         Answer {
             outcome: made.map(|_| 0),
             state: made.unwrap_or_default(),
+            more: false,
         }
     }
 }
 
-// What a call decides that grants no one, with this for the next head.
+// What is decided where no one is granted and no more are pending, with this for the next head.
 pub fn headed(head: Head) -> Decision
     ensures { result ≡ Decisions.headed head }
 {
     Decision {
         count: 0,
         next: head,
+        more: false,
     }
 }
 
-// What a cycle that grants no one decides: a head stays, and no head becomes the last station, or 0 where there is no station.
+// What a cycle decides in which nobody asks: a head stays, and no head becomes the last station, or 0 where there is no station.
 #[tactic(auto, using(rules::proofs::RoundRobin::Laws::after_idle))]
 pub fn idle(width: usize, head: Head) -> Decision
-    ensures { result ≡ Decisions.deciding width head [] }
+    ensures { result ≡ Decisions.deciding width head [] false }
 {
     headed(Some(head.unwrap_or(width.saturating_sub(1))))
 }
 
-// What a cycle decides that grants `count` stations, `last` the last of them: the next head is one past it. With no last it grants no
-// one.
-pub fn decide(width: usize, head: Head, count: usize, last: Option<usize>) -> Decision
-    ensures { result ≡ Decisions.counted width head count last }
+// What a cycle decides that grants `count` stations, `last` the last of them: the next head is one past it. `more` says whether
+// another one asks. With no last nobody asks.
+pub fn decide(width: usize, head: Head, count: usize, last: Option<usize>, more: bool) -> Decision
+    ensures { result ≡ Decisions.counted width head count last more }
 {
     let Some(station) = last else {
         return idle(width, head);
@@ -107,6 +114,7 @@ pub fn decide(width: usize, head: Head, count: usize, last: Option<usize>) -> De
     Decision {
         count,
         next: Some(next),
+        more,
     }
 }
 

@@ -1,15 +1,19 @@
 -- What holds of every call: each asks its questions, and answers by what they say.
 -- Assumes nothing.
-use Prim.Native.Nat.{ℕ, ◌<◌}
+use Prim.Native.Nat.{ℕ, ◌<◌, ◌≤◌}
 use mathlib.Core.Path.{◌≡◌, refl, sym, ap, ◌∙◌}
 use Rattle.std.specs.Prelude.{Result, Ok, Err}
 use mathlib.Core.Bool.{Bool, true, false, ◌&&◌}
 use mathlib.Core.List.{List, []}
 use native.Mathlib.Omega.{arith}
 use lib.Dec.{eqb, leb}
-use lib.ListN.{length, replicate, length-replicate}
+use lib.ListN.{length, get_or, replicate, length-replicate}
+use borrow.Author.Tests.{ne_eqb}
 use Rattle.std.specs.Prelude.{Some}
-use Rattle.rules.specs.Lists.{count}
+use Rattle.std.specs.List.{list_any}
+use Rattle.rules.specs.Lists.{range, count}
+use Rattle.rules.specs.Lists.Laws as Lists
+use Rattle.rules.proofs.Pending.Laws as Pending
 use Rattle.rules.specs.Packing.{pack, unpack}
 use Rattle.rules.specs.RoundRobin as Rule
 use Rattle.rules.proofs.RoundRobin.Laws as RuleLaws
@@ -29,40 +33,50 @@ use Rattle.arbiter.specs.Cycle as RoundRobin
 use Rattle.packed_scan.specs.Calls as PackedScan
 use Rattle.packed_scan.proofs.AsScan.{served_unpacked}
 use Rattle.thermometer.specs.Adder as Adder
+use Rattle.thermometer.specs.declared.adder.Sum.{Sum}
 use Rattle.token_bus.specs.Calls as Bus
 use Rattle.token_bus.specs.Calls.Laws as BusLaws
 use Rattle.engines.specs.declared.Engine.{Engine}
 use Rattle.engines.specs.declared.Engine.TheVariants.{Scan}
 use Rattle.engines.specs.Calls.Laws.{Served, engine_served, engine_refused}
-use Rattle.calls.specs.Answers.{Call, Made, engine_cycle, bus_cycle, packed_cycle, engine_opening, bus_opening, packed_opening, cycle, image_read, image_write, snapshot_read, snapshot_write, ran, unwriting, writing, made, HeadAfter, GrantsCounted, RefusedAsGiven, Placed, PlaceZero, AdderAnswers}
+use Rattle.calls.specs.Answers.{Call, Made, engine_cycle, bus_cycle, packed_cycle, engine_opening, bus_opening, packed_opening, cycle, image_read, image_write, snapshot_read, snapshot_write, ran, unwriting, writing, made, HeadAfter, GrantsCounted, left_asking, MorePending, RefusedAsGiven, Placed, PlaceZero, AdderAnswers}
 
 -- how many bytes are 1
 abbrev ones : List ℕ → ℕ
 ones bytes = count (λ b. eqb b 1) bytes
 
--- what a call has come to: served, it counts its grants; refused, it answers with the state that it was given and changes nothing
+-- what a served call answers by its bytes, with the state that it leaves
+abbrev says : Made → State → Answer
+says r next = record { outcome = Ok (ones r.grants); state = next; more = left_asking r }
+
+-- what a call has come to: served, it counts its grants and says whether somebody is left asking; refused, it answers with the state
+-- that it was given and changes nothing
 data Asked (r : Made) : Type 0 where
-  asked_served : (next : State) → r.answer ≡ served (ones r.grants) next → Asked r
+  asked_served : (next : State) → r.answer ≡ says r next → Asked r
   asked_refused : (refusal : Refusal) → r.answer ≡ refused refusal r.given → r.left ≡ r.lent → Asked r
 
 -- a call has come to one of the two, where a served one counts its grants and a refused one leaves state and buffers as they were
-come_to : (r : Made) (next : State) → (number r.answer ≡ 0 → r.answer ≡ served (ones r.grants) next)
-    → ((number r.answer ≡ 0 → ⊥) → (r.answer.state ≡ r.given) × (r.left ≡ r.lent)) → Asked r
+come_to : (r : Made) (next : State) → (number r.answer ≡ 0 → r.answer ≡ says r next)
+    → ((number r.answer ≡ 0 → ⊥) → (r.answer.state ≡ r.given) × (r.left ≡ r.lent) × (r.answer.more ≡ false)) → Asked r
 come_to r next passes keeps = of_outcome r.answer.outcome refl
   where
     of_outcome : (o : Result ℕ Refusal) → r.answer.outcome ≡ o → Asked r
     of_outcome (Ok k) is = asked_served next (passes (ap number_of is))
-    of_outcome (Err e) is = let kept = keeps (λ z. refusal_number e (sym (ap number_of is) ∙ z)) in asked_refused e (rw (← is, ← kept.0)) kept.1
+    of_outcome (Err e) is = let kept = keeps (λ z. refusal_number e (sym (ap number_of is) ∙ z)) in asked_refused e (rw (← is, ← kept.0, kept.2)) kept.1
+
+-- where nobody asks, nobody is left asking
+none_asking : (grants : List ℕ) (n : ℕ) → list_any (λ w. eqb (get_or {A = ℕ} [] w 0) 1 && eqb (get_or grants w 0) 0) (range 0 n) ≡ false
+none_asking grants n = Lists.any_none _ 0 n (λ w _ _. refl)
 
 -- one that writes no buffer
-asked_unwriting : (v : Verdict) (t s : State) → Asked (unwriting (if_passed v (served 0 t) (λ e. refused e s)) s)
-asked_unwriting (Ok _) t s = asked_served t refl
+asked_unwriting : (v : Verdict) (t s : State) → Asked (unwriting (if_passed v (served t) (λ e. refused e s)) s)
+asked_unwriting (Ok _) t s = asked_served t (rw (none_asking [] s.width))
 asked_unwriting (Err e) t s = asked_refused e refl refl
 
 -- one that writes a buffer
 asked_writing : (v : Verdict) (s t : State) (target former : List ℕ)
-    → Asked (writing (Answers.writes v s (served 0 t) target former) s former)
-asked_writing (Ok _) s t target former = asked_served t refl
+    → Asked (writing (Answers.writes v s (served t) target former) s former)
+asked_writing (Ok _) s t target former = asked_served t (rw (none_asking [] s.width))
 asked_writing (Err e) s t target former = asked_refused e refl refl
 
 -- the state after a served cycle by the round-robin rule, and after one by the bus's
@@ -73,25 +87,30 @@ abbrev bus_after : State → List ℕ → ℕ → State
 bus_after s requests byte =
     moved s (Some (BusRule.next s.width (Bus.token s) (BusRule.acknowledged byte) (RoundRobin.asking s requests)))
 
--- its count is that of the bytes that are 1
-counted : (s : State) (requests : List ℕ) (a : Answer) (bytes : List ℕ) → Served s requests a bytes
-    → a ≡ served (ones bytes) (after s requests)
-counted s requests a bytes r =
-    let is = RuleLaws.grants_count s.width s.picks s.head (RoundRobin.asking s requests) (omega (arith, r.allows.station)) in
-    rw (r.granted, is) r.answers
+-- what it answers is told by its bytes: its count is that of the grants that are 1, and more are pending if somebody is left asking
+counted : (s : State) (r : Made) (requests : List ℕ) → r.given ≡ s → r.requests ≡ requests → Served s requests r.answer r.grants
+    → r.answer ≡ says r (after s requests)
+counted s r requests e f t =
+    let station : Rule.start s.head ≤ s.width = omega (arith, t.allows.station) in
+    let asks = RoundRobin.asking s requests in
+    let is = RuleLaws.grants_count s.width s.picks s.head asks station in
+    let left = Pending.more_told s.width s.picks s.head asks station in
+    rw (e, f, t.granted, is, ← left) t.answers
 
-bus_counted : (s : State) (requests : List ℕ) (byte : ℕ) (o : Outcome) → BusLaws.Served s requests byte o
-    → o.answer ≡ served (ones o.written) (bus_after s requests byte)
-bus_counted s requests byte o r =
-    let is = BusRuleLaws.grants_count s.width (Bus.token s) (RoundRobin.asking s requests) r.token in
-    rw (r.grants, is) r.answers
+bus_counted : (s : State) (r : Made) (requests : List ℕ) (byte : ℕ) (o : Outcome) → r.given ≡ s → r.requests ≡ requests → r.answer ≡ o.answer
+    → r.grants ≡ o.written → BusLaws.Served s requests byte o → r.answer ≡ says r (bus_after s requests byte)
+bus_counted s r requests byte o e f g h t =
+    let asks = RoundRobin.asking s requests in
+    let is = BusRuleLaws.grants_count s.width (Bus.token s) asks t.token in
+    let left = BusRuleLaws.more_told s.width (Bus.token s) asks t.token in
+    rw (e, f, g, h, t.grants, is, ← left) t.answers
 
 -- the cycles of the engines of the round-robin rule, and of the scan among them
 asked_engine : (e : Engine) (s : State) (requests grants nodes : List ℕ) → Asked (ran (engine_cycle e s requests grants nodes))
 asked_engine e s requests grants nodes =
     come_to (ran (engine_cycle e s requests grants nodes)) (after s requests)
-    (λ z. counted s requests _ _ (engine_served e s requests grants nodes z))
-    (λ n. let kept = engine_refused e s requests grants nodes n in (kept.0, rw (kept.1, kept.2)))
+    (λ z. counted s (ran (engine_cycle e s requests grants nodes)) requests refl refl (engine_served e s requests grants nodes z))
+    (λ n. let kept = engine_refused e s requests grants nodes n in (kept.0, rw (kept.1, kept.2), kept.3))
 
 asked_scan : (s : State) (requests grants nodes : List ℕ) → Asked (ran (engine_cycle Scan s requests grants nodes))
 asked_scan = asked_engine Scan
@@ -99,8 +118,10 @@ asked_scan = asked_engine Scan
 asked_bus : (s : State) (requests grants : List ℕ) (byte : ℕ) → Asked (ran (bus_cycle s requests grants byte))
 asked_bus s requests grants byte =
     come_to (ran (bus_cycle s requests grants byte)) (bus_after s requests byte)
-    (λ z. bus_counted s requests byte (Bus.cycle s requests grants byte) (BusLaws.cycle_served s requests grants byte z))
-    (λ n. let kept = BusLaws.cycle_refused s requests grants byte n in (kept.0, rw kept.1))
+    (λ z.
+    bus_counted s (ran (bus_cycle s requests grants byte)) requests byte (Bus.cycle s requests grants byte) refl refl refl refl
+    (BusLaws.cycle_served s requests grants byte z))
+    (λ n. let kept = BusLaws.cycle_refused s requests grants byte n in (kept.0, rw kept.1, kept.2))
 
 -- the packed scan: what it serves, the plain scan serves on the unpacked wires
 module _ (s : State) (requests grants : List ℕ) where
@@ -116,15 +137,16 @@ module _ (s : State) (requests grants : List ℕ) where
       let same = served_unpacked s requests grants bytes z (length-replicate s.width 0) in
       rw same at (engine_served Scan s wires bytes [] (ap (λ (o : Outcome). number o.answer) same ∙ z))
 
-  packed_kept : (number packed_outcome.answer ≡ 0 → ⊥) → (packed_outcome.answer.state ≡ s) × (packed_outcome.written ≡ grants)
+  packed_kept : (number packed_outcome.answer ≡ 0 → ⊥)
+      → (packed_outcome.answer.state ≡ s) × (packed_outcome.written ≡ grants) × (packed_outcome.answer.more ≡ false)
   packed_kept n =
       let v = PackedScan.questions s.width s.picks s.head requests (length grants) in
       writes_refused v s (RoundRobin.answer s wires) (pack (RoundRobin.granting s wires)) grants refl n
 
   asked_packed : Asked (ran (packed_cycle s requests grants))
   asked_packed =
-      come_to (ran (packed_cycle s requests grants)) (after s wires) (λ z. counted s wires _ _ (as_scan z))
-      (λ n. let kept = packed_kept n in (kept.0, rw kept.1))
+      come_to (ran (packed_cycle s requests grants)) (after s wires) (λ z. counted s (ran (packed_cycle s requests grants)) wires refl refl (as_scan z))
+      (λ n. let kept = packed_kept n in (kept.0, rw kept.1, kept.2))
 
 -- every call
 asked : (c : Call) → Asked (made c)
@@ -146,6 +168,15 @@ grants_are_counted r (asked_refused refusal e same) z = absurd (refusal_number r
 
 pub grants_counted : GrantsCounted
 grants_counted c z = grants_are_counted (made c) (asked c) z
+
+more_said : (r : Made) → Asked r → r.answer.more ≡ (eqb (number r.answer) 0 && left_asking r)
+more_said r (asked_served next e) = rw (ap (λ (a : Answer). number a) e) (ap (λ (a : Answer). a.more) e)
+more_said r (asked_refused refusal e same) =
+    let n = ap (λ (a : Answer). number a) e in
+    rw (ne_eqb (number r.answer) 0 (λ z. refusal_number refusal (sym n ∙ z))) (ap (λ (a : Answer). a.more) e)
+
+pub more_pending : MorePending
+more_pending c = more_said (made c) (asked c)
 
 as_given : (r : Made) → Asked r → (number r.answer ≡ 0 → ⊥)
     → (Answers.count r.answer ≡ 0) × (r.answer.state ≡ r.given) × (r.left ≡ r.lent)
@@ -201,12 +232,12 @@ head_after (bus_cycle s requests grants byte) z =
 head_after (packed_cycle s requests grants) z = rule_head s (unpack s.width requests) _ _ (as_scan s requests grants z)
 
 -- the adder by what it asks: 3 and 13
-adder_says : (picks codes : Bool) (code : ℕ)
-    → let s = refuse_unless picks Picks then refuse_unless codes Code then Ok code in
-    (place_of s ≡ 0) × ((number_of s ≡ 0 → ⊥) → Adder.code_of s ≡ 0)
-adder_says true true code = (refl, λ n. absurd (n refl))
-adder_says true false code = (refl, λ n. refl)
-adder_says false codes code = (refl, λ n. refl)
+adder_says : (picks codes : Bool) (sum : Sum)
+    → let s = refuse_unless picks Picks then refuse_unless codes Code then Ok sum in
+    (place_of s ≡ 0) × ((number_of s ≡ 0 → ⊥) → (Adder.code_of s ≡ 0) × (Adder.cut_of s ≡ false))
+adder_says true true sum = (refl, λ n. absurd (n refl))
+adder_says true false sum = (refl, λ n. (refl, refl))
+adder_says false codes sum = (refl, λ n. (refl, refl))
 
 pub adder_answers : AdderAnswers
 adder_answers m a b = adder_says (leb 1 m && leb m 8) (is_code m a && is_code m b) _

@@ -1,10 +1,11 @@
 -- What holds of every call, whatever it is given: 01, "Questions each call asks, in this order", its last paragraph, and "The turn
 -- rule"; 02 adds calls and questions. What a call answers and writes is said by the definition that its contract cites.
 -- Assumes nothing.
-use Rattle.std.specs.Prelude.{ℕ, ◌<◌, ◌≡◌, List, [], ◌∷◌, eqb}
+use Rattle.std.specs.Prelude.{ℕ, ◌<◌, ◌≡◌, Bool, false, ◌&&◌, List, [], ◌∷◌, eqb, get_or}
 use Rattle.rules.specs.Head.{Head}
 use Rattle.std.specs.Prelude.{Some}
-use Rattle.rules.specs.Lists.{count}
+use Rattle.std.specs.List.{list_any}
+use Rattle.rules.specs.Lists.{range, count}
 use Rattle.rules.specs.Packing.{unpack}
 use Rattle.arbiter.specs.declared.Answer.{Answer}
 use Rattle.arbiter.specs.declared.State.{State}
@@ -36,11 +37,13 @@ pub data Call : Type 0 where
   snapshot_read : List ℕ → Call
   snapshot_write : State → List ℕ → Call
 
--- a call that was made: its answer; the state that it was given, or "N 0, m 0, no head" where it makes one; the grants afterwards,
--- a byte for each station, where it is a cycle; and the buffers that it may write, as they were lent and as it left them
+-- a call that was made: its answer; the state that it was given, or "N 0, m 0, no head" where it makes one; the requests, and the
+-- grants afterwards, a byte for each station, where it is a cycle; and the buffers that it may write, as they were lent and as it left
+-- them
 pub record Made : Type 0 where
   pub answer : Answer
   pub given : State
+  pub requests : List ℕ
   pub grants : List ℕ
   pub lent : List (List ℕ)
   pub left : List (List ℕ)
@@ -52,18 +55,20 @@ ran (engine_cycle e s requests grants nodes) =
     record {
       answer = o.answer;
       given = s;
+      requests = requests;
       grants = o.grants;
       lent = grants ∷ nodes ∷ [];
       left = o.grants ∷ o.nodes ∷ [];
     }
 ran (bus_cycle s requests grants byte) =
     let o = Bus.cycle s requests grants byte in
-    record { answer = o.answer; given = s; grants = o.written; lent = grants ∷ []; left = o.written ∷ [] }
+    record { answer = o.answer; given = s; requests = requests; grants = o.written; lent = grants ∷ []; left = o.written ∷ [] }
 ran (packed_cycle s requests grants) =
     let o = PackedScan.cycle s requests grants in
     record {
       answer = o.answer;
       given = s;
+      requests = unpack s.width requests;
       grants = unpack s.width o.written;
       lent = grants ∷ [];
       left = o.written ∷ [];
@@ -71,11 +76,11 @@ ran (packed_cycle s requests grants) =
 
 -- a call that writes no buffer
 abbrev pub unwriting : Answer → State → Made
-unwriting a s = record { answer = a; given = s; grants = []; lent = []; left = [] }
+unwriting a s = record { answer = a; given = s; requests = []; grants = []; lent = []; left = [] }
 
 -- a call that writes one and is no cycle
 abbrev pub writing : Outcome → State → List ℕ → Made
-writing o s former = record { answer = o.answer; given = s; grants = []; lent = former ∷ []; left = o.written ∷ [] }
+writing o s former = record { answer = o.answer; given = s; requests = []; grants = []; lent = former ∷ []; left = o.written ∷ [] }
 
 -- any call
 abbrev pub made : Call → Made
@@ -98,6 +103,15 @@ HeadAfter =
 abbrev pub GrantsCounted : Type 0
 GrantsCounted = (c : Call) → let r = made c in number r.answer ≡ 0 → Answers.count r.answer ≡ count (λ b. eqb b 1) r.grants
 
+-- some station asks, by its request, and is not granted, by its grant
+abbrev pub left_asking : Made → Bool
+left_asking r = list_any (λ w. eqb (get_or r.requests w 0) 1 && eqb (get_or r.grants w 0) 0) (range 0 r.given.width)
+
+-- 02, N5: "each cycle's answer says yes exactly if some asking station was not granted"; "a refusal says no", and so does a call that
+-- is no cycle
+abbrev pub MorePending : Type 0
+MorePending = (c : Call) → let r = made c in r.answer.more ≡ (eqb (number r.answer) 0 && left_asking r)
+
 -- "A refusal returns count 0 and the state as given, and writes nothing"
 abbrev pub RefusedAsGiven : Type 0
 RefusedAsGiven =
@@ -111,7 +125,9 @@ Placed number place = (number ≡ 8 → ⊥) → (number ≡ 10 → ⊥) → (nu
 abbrev pub PlaceZero : Type 0
 PlaceZero = (c : Call) → let r = made c in Placed (number r.answer) (place r.answer)
 
--- "The adder's answer is a number, a place and a code; refused, it returns code 0". It asks none that has a place
+-- "The adder's answer is a number, a place and a code; refused, it returns code 0", and has cut nothing off (02, N5). It asks none that
+-- has a place
 abbrev pub AdderAnswers : Type 0
 AdderAnswers =
-    (m a b : ℕ) → let s = Adder.sum m a b in (place_of s ≡ 0) × ((number_of s ≡ 0 → ⊥) → Adder.code_of s ≡ 0)
+    (m a b : ℕ) → let s = Adder.sum m a b in
+    (place_of s ≡ 0) × ((number_of s ≡ 0 → ⊥) → (Adder.code_of s ≡ 0) × (Adder.cut_of s ≡ false))

@@ -54,9 +54,9 @@ impl Dispatch {
         engine.opening(width, picks, Some(head))
     }
 
-    // One cycle of an engine: writes the grants of these requests, and answers with their count and the next state. Asks what
-    // the engine's own cycle asks. Only the tree asks about the node buffer and writes it. With 4 stations, head 2 and stations
-    // 0 and 1 asking, each engine grants 0, and the next head is 1.
+    // One cycle of an engine: writes the grants of these requests, and answers with their count, the next state, and whether more
+    // are pending. Asks what the engine's own cycle asks. Only the tree asks about the node buffer and writes it. With 4 stations,
+    // head 2 and stations 0 and 1 asking, each engine grants 0, the next head is 1, and more are pending.
     pub fn cycle(
         self,
         engine: Engine,

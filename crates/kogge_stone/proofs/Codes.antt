@@ -1,11 +1,11 @@
 -- The join of two codes by a product, and codes that are joined.
 -- Assumes nothing.
-use Prim.Native.Nat.{ℕ, ◌+◌, ◌*◌, ◌-◌, ◌^◌, ◌≤◌, ◌<◌, min}
+use Prim.Native.Nat.{ℕ, ◌+◌, ◌*◌, ◌-◌, ◌^◌, ◌<◌, min}
 use mathlib.Core.Path.{◌≡◌, ap, ap₂, ◌∙◌}
 use mathlib.Core.Bool.{true}
 use mathlib.Core.List.{List}
 use native.Mathlib.Omega.{arith}
-use native.Mathlib.Nat.{mul-le-mul_left, mul-suc}
+use native.Mathlib.Nat.{mul-suc}
 use lib.Count.{ones}
 use lib.Dec.{ltb}
 use lib.ListN.{length, get_or, get_or-eq_default}
@@ -18,34 +18,28 @@ use Rattle.rules.specs.KoggeStone.{joined}
 use Rattle.rules.proofs.KoggeStone.Laws as Network
 use Rattle.kogge_stone.specs.Steps.{Codes}
 
--- the product of two bytes
-pub product_fits : (a b : ℕ) → a < 256 → b < 256 → a * b ≤ a * 255
-product_fits a b l u = mul-le-mul_left a (omega arith)
-
 -- left * right + left + right
 product : (a b : ℕ) → code a * code b + code a + code b ≡ code (a + b)
 unfolding code
 product a b = omega (arith, ones_split a b, ap (λ (k : ℕ). (2 ^ a - 1) * k) (suc_ones b), mul-suc (2 ^ a - 1) (2 ^ b - 1))
 
--- of two codes for the picks, whose code is `full`
-module _ (full left right : ℕ) (f : is_code 8 full ≡ true) (l : is_code (ones full) left ≡ true) (r : is_code (ones full) right ≡ true) where
-  sum : left * right + left + right ≡ code (ones left + ones right)
-  sum =
-      ap₂ (λ (x y : ℕ). x * y + x + y) (code_own (ones full) left l) (code_own (ones full) right r) ∙ product (ones left) (ones right)
+-- of two codes
+pub whole : (left right : ℕ) → left ≡ code (ones left) → right ≡ code (ones right) → left * right + left + right ≡ code (ones left + ones right)
+whole left right l r = ap₂ (λ (x y : ℕ). x * y + x + y) l r ∙ product (ones left) (ones right)
 
-  -- the sum, or the code of the picks if that is smaller, is their join
-  pub joins : min (left * right + left + right) full ≡ add (ones full) left right
-  unfolding add
-  joins =
-      let both = ones left + ones right in
-      let own = code_own 8 full f in
-      Lists.split (ltb both (ones full))
-      (λ t.
-      let few : min (ones full) both ≡ both = omega (arith, ltb-true both (ones full) t) in
-      rw few (omega (arith, sum, own, ltb-true (code both) (code (ones full)) (code_below both (ones full) ∙ t))))
-      (λ n.
-      let many : min (ones full) both ≡ ones full = omega (arith, ltb-false both (ones full) n) in
-      rw many (omega (arith, sum, own, ltb-false (code both) (code (ones full)) (code_below both (ones full) ∙ n))))
+-- that, or the code of the picks if it is smaller, is their join
+pub joins : (full left right sum : ℕ) → is_code 8 full ≡ true → sum ≡ code (ones left + ones right) → min sum full ≡ add (ones full) left right
+unfolding add
+joins full left right sum f e =
+    let both = ones left + ones right in
+    let own = code_own 8 full f in
+    Lists.split (ltb both (ones full))
+    (λ t.
+    let few : min (ones full) both ≡ both = omega (arith, ltb-true both (ones full) t) in
+    rw few (omega (arith, e, own, ltb-true (code both) (code (ones full)) (code_below both (ones full) ∙ t))))
+    (λ n.
+    let many : min (ones full) both ≡ ones full = omega (arith, ltb-false both (ones full) n) in
+    rw many (omega (arith, e, own, ltb-false (code both) (code (ones full)) (code_below both (ones full) ∙ n))))
 
 -- joined at a distance codes stay codes
 pub joined_codes : (m d : ℕ) (codes : List ℕ) → Codes m codes → Codes m (joined m d codes)
@@ -56,8 +50,9 @@ joined_codes m d codes all p l =
     (λ f. rw (Network.joined_far m d codes p u (ltb-false p d f)) (add_is_code m (get_or codes (p - d) 0) (get_or codes p 0)))
 
 -- past the last byte a 0 is read, which is a code too
-pub every_code : (m : ℕ) (bytes : List ℕ) → Codes m bytes → (q : ℕ) → is_code m (get_or bytes q 0) ≡ true
+pub every_code : (m : ℕ) (bytes : List ℕ) → Codes m bytes → (q : ℕ) → get_or bytes q 0 ≡ code (ones (get_or bytes q 0))
 every_code m bytes all q =
-    Lists.split (ltb q (length bytes))
+    code_own m _
+    (Lists.split (ltb q (length bytes))
     (λ t. all q (ltb-true q (length bytes) t))
-    (λ f. rw (get_or-eq_default bytes 0 (ltb-false q (length bytes) f)) (zero_is_code m))
+    (λ f. rw (get_or-eq_default bytes 0 (ltb-false q (length bytes) f)) (zero_is_code m)))

@@ -1,8 +1,8 @@
 -- What is read off the running codes is what the round-robin rule grants and decides.
 -- Assumes nothing.
-use Prim.Native.Nat.{ℕ, zero, suc, ◌+◌, ◌-◌, ◌<◌}
+use Prim.Native.Nat.{ℕ, zero, suc, ◌+◌, ◌-◌, ◌≤◌, ◌<◌}
 use mathlib.Core.Path.{◌≡◌, refl, sym, ap, ◌∙◌}
-use mathlib.Core.Bool.{Bool, true, ◌&&◌}
+use mathlib.Core.Bool.{Bool, true, false, ◌&&◌}
 use mathlib.Core.List.{List, []}
 use native.Mathlib.Omega.{arith}
 use native.Mathlib.Nat.{zero-add}
@@ -27,6 +27,9 @@ use Rattle.rules.specs.Thermometer as Thermometer
 use Rattle.rules.specs.Thermometer.{code, is_code, saturated, running_codes}
 use Rattle.rules.proofs.Thermometer.Laws.{zero_ones, code_own, code_below, grants_round_robin}
 use Rattle.rules.proofs.Thermometer.Running.{running_first, codes_inputs, codes_length, code_before, ones_past, code_last}
+use Rattle.rules.specs.KoggeStone.{network_cuts}
+use Rattle.rules.proofs.KoggeStone.Laws.{network_more}
+use Rattle.rules.proofs.Pending.Laws.{more_picks}
 use Rattle.rules.proofs.Walk.Laws.{Walked}
 use Rattle.arbiter.specs.Decisions.{requested, decision, deciding, counted}
 use Rattle.arbiter.specs.Decisions.Laws.{walked}
@@ -38,7 +41,8 @@ is_before : (byte : ℕ) (bytes : List ℕ) → length (before byte bytes) ≡ p
 is_before byte bytes =
     is_position_or_len (λ xs. length (before byte xs)) (λ b. byte == b) refl (λ x xs. Lists.split (eqb byte x) (λ t. rw t) (λ f. rw f (omega arith))) bytes
 
-module _ (m full : ℕ) (h : Head) (requests : List ℕ) (most : ones full ≡ m) (coded : is_code 8 full ≡ true) (first : start h < length requests) where
+module _ (m full : ℕ) (h : Head) (requests : List ℕ) (picked : 1 ≤ m) (most : ones full ≡ m) (coded : is_code 8 full ≡ true)
+    (first : start h < length requests) where
   abbrev n : ℕ
   n = length requests
 
@@ -149,8 +153,9 @@ module _ (m full : ℕ) (h : Head) (requests : List ℕ) (most : ones full ≡ m
     sum = ec ∙ rw is
 
     -- where nobody is counted
-    pub idles : c ≡ 0 → (deciding n h [] ≡ decision n m h asks) × (new ≡ RoundRobin.grants n m h asks)
-    idles none = (walked n m h asks (read {z = None} (λ e. refl) (λ some. absurd (omega (arith, sum))) bytes), bytes)
+    pub idles : c ≡ 0 → (deciding n h [] false ≡ decision n m h asks) × (new ≡ RoundRobin.grants n m h asks)
+    idles none =
+        (walked n m h asks picked (omega arith) (read {z = None} (λ e. refl) (λ some. absurd (omega (arith, sum))) bytes) refl, bytes)
 
     -- and where somebody is: `found` is the place at which their count is first reached
     pub placed_some : (found : Option ℕ) → found ≡ position (λ b. get_or given n 0 == b) (take (length given - 1) (drop 1 given)) → found ≡ Some p
@@ -159,7 +164,8 @@ module _ (m full : ℕ) (h : Head) (requests : List ℕ) (most : ones full ≡ m
         let at : position_or_len (λ b. get_or given n 0 == b) (drop 1 given) ≡ p = rw is (sym (is_before total later)) in
         e ∙ rw (rest, at, is, lt-ltb p (length later) (omega (arith, inside, many)))
 
-    pub decides : (c ≡ 0 → ⊥) → (v : ℕ) → v ≡ station n f p → (counted n h c (Some v) ≡ decision n m h asks) × (new ≡ RoundRobin.grants n m h asks)
-    decides any v ev =
+    pub decides : (c ≡ 0 → ⊥) → (v : ℕ) → v ≡ station n f p → (more : Bool) → more ≡ network_cuts n m h asks
+        → (counted n h c (Some v) more ≡ decision n m h asks) × (new ≡ RoundRobin.grants n m h asks)
+    decides any v ev more cut =
         let here : v ≡ w = ev ∙ rw ef in
-        (rw (sum, here) (walked n m h asks (read {z = Some w} (λ e. absurd (any (sum ∙ e))) (λ some. refl) bytes)), bytes)
+        (rw (sum, here) (walked n m h asks picked (omega arith) (read {z = Some w} (λ e. absurd (any (sum ∙ e))) (λ some. refl) bytes) (cut ∙ network_more n m h asks (omega arith) picked ∙ sym (more_picks n m h asks (omega arith)))), bytes)

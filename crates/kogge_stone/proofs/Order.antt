@@ -9,13 +9,13 @@ use lib.ListN.{length, get_or, take, drop, length-drop, drop_of_length-le}
 use lib.Seq.{drop-cons, take_all}
 use borrow.Author.Tests.{leb-true, leb-false}
 use Rattle.rules.specs.Head.{Head}
-use Rattle.std.specs.Prelude.{None, Some}
+use Rattle.std.specs.Prelude.{None, Some, Bool}
 use Rattle.rules.specs.Lists.{range}
 use Rattle.rules.specs.Lists.Laws as Lists
 use Rattle.rules.specs.RoundRobin.{start}
 use Rattle.rules.proofs.RoundRobin.Laws.{start_none, start_at}
-use Rattle.rules.specs.KoggeStone.{distances, levels, network}
-use Rattle.rules.proofs.KoggeStone.Laws.{network_levels}
+use Rattle.rules.specs.KoggeStone.{distances, levels, network, levels_cut, network_cuts}
+use Rattle.rules.proofs.KoggeStone.Laws.{network_levels, network_cut}
 use Rattle.rules.specs.Thermometer.{input, inputs}
 use Rattle.rules.proofs.Thermometer.Laws.{code_bit}
 use Rattle.rules.proofs.Thermometer.Running.{inputs_runs, inputs_codes}
@@ -60,3 +60,9 @@ module _ (m : ℕ) (requests : List ℕ) (some : 1 ≤ m) (wires : Bits requests
     come_out h l e out =
         let go-in : codes ≡ inputs (length requests) m h (requested requests) = rotated ∙ rw e (ordered h l) in
         out ∙ rw go-in (network_levels (length requests) m h (requested requests) l)
+
+    pub cut_off : (h : Head) → start h ≤ length requests → f ≡ start h → {out : Bool} → out ≡ levels_cut m (distances (length codes)) codes
+        → out ≡ network_cuts (length requests) m h (requested requests)
+    cut_off h l e out =
+        let go-in : codes ≡ inputs (length requests) m h (requested requests) = rotated ∙ rw e (ordered h l) in
+        out ∙ rw go-in (network_cut (length requests) m h (requested requests) l)

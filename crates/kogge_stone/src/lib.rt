@@ -7,6 +7,7 @@ mod network;
 ghost use Rattle.std.specs.Prelude.{◌==◌, position, true, ◌&&◌, ◌≡◌, ◌+◌, ◌≤◌, ◌<◌, eqb, ltb, length};
 ghost use Rattle.std.specs.Int.Count.{ones};
 ghost use Rattle.rules.specs.Lists.{bit, before};
+ghost use Rattle.rules.specs.KoggeStone as Network;
 ghost use Rattle.rules.specs.RoundRobin as RoundRobin;
 ghost use Rattle.rules.specs.RoundRobin.{start};
 ghost use Rattle.rules.specs.Thermometer as Rule;
@@ -68,22 +69,23 @@ fn count_round(cycle: &mut ServedCycle<'_>, room: &mut [u8]) -> Decision
     let counts = &mut room[..cycle.requests.len() + 1];
     let picks = Picks::new(cycle.picks);
     counts[0] = 0;
-    network::run(
+    let more = network::run(
         picks,
         cycle.head,
         cycle.requests,
         &mut counts[1..],
         cycle.grants,
     );
-    read_off(cycle, picks, counts)
+    read_off(cycle, picks, counts, more)
 }
 
 // Reads the grants off the running codes, of which there is one before each position of the order and one past the last, and decides.
-// The station whose own request brings the count to that of all is granted last.
-fn read_off(cycle: &mut ServedCycle<'_>, picks: Picks, counts: &[u8]) -> Decision
+// The station whose own request brings the count to that of all is granted last; `more` is whether the network cut anything off.
+fn read_off(cycle: &mut ServedCycle<'_>, picks: Picks, counts: &[u8], more: bool) -> Decision
     requires picks_value { ones picks.code ≡ cycle.old.picks }
     requires counts_value { counts.now ≡ Rule.running_codes (length cycle.old.requests.now) cycle.old.picks cycle.old.head (requested cycle.old.requests.now) }
     requires counts_len { length counts.now ≡ length cycle.old.requests.now + 1 }
+    requires more_value { more ≡ Network.network_cuts (length cycle.old.requests.now) cycle.old.picks cycle.old.head (requested cycle.old.requests.now) }
     ensures value { result ≡ decision (length cycle.old.requests.now) cycle.old.picks cycle.old.head (requested cycle.old.requests.now) }
     ensures same_reference { cycle.new.grants.ghost_name ≡ cycle.old.grants.ghost_name }
     ensures grants_after { cycle.new.grants.now ≡ RoundRobin.grants (length cycle.old.requests.now) cycle.old.picks cycle.old.head (requested cycle.old.requests.now) }
@@ -108,6 +110,7 @@ fn read_off(cycle: &mut ServedCycle<'_>, picks: Picks, counts: &[u8]) -> Decisio
         cycle.head,
         count,
         position.map(|p| station(width, first, p)),
+        more,
     )
 }
 

@@ -1,5 +1,5 @@
 // The Kogge-Stone network: codes over the positions of the order, joined at distances 1, 2, 4 and so on.
-ghost use Rattle.std.specs.Prelude.{true, ◌++◌, ◌≡◌, ◌≤◌, ◌<◌, length, take, drop};
+ghost use Rattle.std.specs.Prelude.{true, ◌+◌, ◌++◌, ◌≡◌, ◌≤◌, ◌<◌, length, take, drop};
 ghost use Rattle.std.specs.Int.Count.{ones};
 ghost use Rattle.rules.specs.KoggeStone as Network;
 ghost use Rattle.rules.specs.RoundRobin.{start};
@@ -14,18 +14,26 @@ use rules::Head;
 use thermometer::adder::Picks;
 
 // Writes what comes out of the network: for each position of the order the code of how many ask up to it, its own station included,
-// or of the picks where those are fewer. `before` is room for as many codes, whatever it holds.
-pub(crate) fn run(picks: Picks, head: Head, requests: &[u8], codes: &mut [u8], before: &mut [u8])
+// or of the picks where those are fewer. It answers whether any of its adders cut anything off. `before` is room for as many codes,
+// whatever it holds.
+pub(crate) fn run(
+    picks: Picks,
+    head: Head,
+    requests: &[u8],
+    codes: &mut [u8],
+    before: &mut [u8],
+) -> bool
     requires head_in_bounds { start head < length requests.now }
     requires requests_len_bound { length requests.now ≤ max_width }
     requires bits { Bits requests.now }
     requires codes_len { length codes.old ≡ length requests.now }
     requires before_len { length before.old ≡ length requests.now }
-    ensures { codes.new ≡ Network.network (length requests.now) (ones picks.code) head (requested requests.now) }
+    ensures value { result ≡ Network.network_cuts (length requests.now) (ones picks.code) head (requested requests.now) }
+    ensures codes_after { codes.new ≡ Network.network (length requests.now) (ones picks.code) head (requested requests.now) }
 {
     let first = first_station(head);
     rotate(first, requests, codes);
-    join_all(picks, codes, before);
+    join_all(picks, codes, before)
 }
 
 // Writes the requests in the order that starts at station `first`.
@@ -40,42 +48,50 @@ fn rotate(first: usize, requests: &[u8], ordered: &mut [u8])
     later.copy_from_slice(low);
 }
 
-// Joins the codes at distances 1, 2, 4 and so on, while the distance is below their number. `before` is room for as many.
-fn join_all(picks: Picks, codes: &mut [u8], before: &mut [u8])
+// Joins the codes at distances 1, 2, 4 and so on, while the distance is below their number, and answers whether anything was cut off.
+// `before` is room for as many.
+fn join_all(picks: Picks, codes: &mut [u8], before: &mut [u8]) -> bool
     requires codes_len_bound { length codes.old ≤ max_width }
     requires codes { Codes (ones picks.code) codes.old }
     requires before_len { length before.old ≡ length codes.old }
-    ensures { codes.new ≡ Network.levels (ones picks.code) (Network.distances (length codes.old)) codes.old }
+    ensures value { result ≡ Network.levels_cut (ones picks.code) (Network.distances (length codes.old)) codes.old }
+    ensures codes_after { codes.new ≡ Network.levels (ones picks.code) (Network.distances (length codes.old)) codes.old }
 {
     // a `while`, since the distance doubles
     let mut distance: usize = 1;
+    let mut cut = false;
     while distance < codes.len() {
         before.copy_from_slice(codes);
-        join_at(picks, distance, before, codes);
+        cut |= join_at(picks, distance, before, codes);
         distance *= 2;
     }
+    cut
 }
 
 // Joins the code of each position that is at least `distance` from the first to the code of the position that far before it, as it
-// was `before`. By index, since what is written through `zip` a proof knows by its length alone.
-fn join_at(picks: Picks, distance: usize, before: &[u8], codes: &mut [u8])
+// was `before`, and answers whether anything was cut off: of the whole sums or'ed one comparison tells. The code of the picks is the
+// most that is kept, a byte, so the cast loses nothing. By index, since what is written through `zip` a proof knows by its length alone.
+fn join_at(picks: Picks, distance: usize, before: &[u8], codes: &mut [u8]) -> bool
     requires codes { Codes (ones picks.code) before.now }
     requires codes_value { codes.old ≡ before.now }
-    ensures { codes.new ≡ Network.joined (ones picks.code) distance before.now }
+    ensures value { result ≡ Network.joined_cuts (ones picks.code) distance before.now }
+    ensures codes_after { codes.new ≡ Network.joined (ones picks.code) distance before.now }
 {
+    let mut reach = 0;
     for p in distance..codes.len() {
-        codes[p] = join(picks, before[p - distance], codes[p]);
+        let whole = sum(before[p - distance], codes[p]);
+        reach |= whole;
+        codes[p] = whole.min(u16::from(picks.code)) as u8;
     }
+    u16::from(picks.code) < reach
 }
 
-// The saturated sum of two codes. The code of a count c is 2^c - 1, so left * right + left + right is the code of both counts
-// together; the code of the picks is the most. The sum is below 256 then, so the cast loses nothing.
-#[tactic(auto, using(crate::proofs::Codes::joins))]
-fn join(picks: Picks, left: u8, right: u8) -> u8
-    requires left_value { Rule.is_code (ones picks.code) left ≡ true }
-    requires right_value { Rule.is_code (ones picks.code) right ≡ true }
-    ensures { result ≡ Rule.add (ones picks.code) left right }
+// The code of two codes' counts together. The code of a count c is 2^c - 1, so it is left * right + left + right.
+#[tactic(auto, using(crate::proofs::Codes::whole))]
+fn sum(left: u8, right: u8) -> u16
+    requires left_value { left ≡ Rule.code (ones left) }
+    requires right_value { right ≡ Rule.code (ones right) }
+    ensures { result ≡ Rule.code (ones left + ones right) }
 {
-    let sum = u16::from(left) * u16::from(right) + u16::from(left) + u16::from(right);
-    sum.min(u16::from(picks.code)) as u8
+    u16::from(left) * u16::from(right) + u16::from(left) + u16::from(right)
 }

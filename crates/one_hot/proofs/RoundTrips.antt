@@ -37,14 +37,14 @@ pub image_read_back : ImageReadBack
 image_read_back s t former z y w =
     let v = Questions.write s.width s.picks s.head s.width (length former) in
     let bytes = OneHot.image s.width s.head in
-    let passes : v ≡ passed = Answers.writes_passed v s (served 0 s) bytes former z in
+    let passes : v ≡ passed = Answers.writes_passed v s (served s) bytes former z in
     let a = (Asked.writable s.width s.picks s.head s.width (length former) passes).allows in
     let back = OneHot.image t.width s.head in
     let l : start s.head < t.width = omega (arith, a.station) in
-    ap (λ o. OneHot.read t o.written) (Answers.writes_is v s (served 0 s) bytes former passes)
+    ap (λ o. OneHot.read t o.written) (Answers.writes_is v s (served s) bytes former passes)
     ∙ rw (← w)
     (Answers.passed_is (OneHot.questions t.width t.picks t.head back) _ _ (readable t.width t.picks t.head s.head y l)
-    ∙ ap (λ (h : Head). served 0 (moved t h)) (Image.image_head t.width s.head l))
+    ∙ ap (λ (h : Head). served (moved t h)) (Image.image_head t.width s.head l))
 
 -- what is known of an image that was read
 record Read (n m : ℕ) (h : Head) (bytes : List ℕ) : Type 0 where
@@ -78,7 +78,7 @@ pub image_written_back : ImageWrittenBack
 image_written_back s bytes former z e =
     let v = OneHot.questions s.width s.picks s.head bytes in
     let t = moved s (OneHot.head_of bytes) in
-    let passes : v ≡ passed = Answers.served_passed v (served 0 t) (λ refusal. refused refusal s) (λ (a : Answer). number a) (λ e f. refl) z in
+    let passes : v ≡ passed = Answers.served_passed v (served t) (λ refusal. refused refusal s) (λ (a : Answer). number a) (λ e f. refl) z in
     let r = was_read s.width s.picks s.head bytes passes in
     let a = r.allowed in
     let in-width : start t.head < t.width = omega (arith, shown bytes (omega (arith, r.long, a.some)), r.long) in
@@ -86,8 +86,8 @@ image_written_back s bytes former z e =
     record { some = a.some; most = a.most; picked = a.picked; few = a.few; fit = a.fit; station = in-width } in
     let same : OneHot.image s.width (OneHot.head_of bytes) ≡ bytes =
     ap (λ (n : ℕ). OneHot.image n (OneHot.head_of bytes)) (sym r.long) ∙ Image.image_of bytes r.bits r.single in
-    let read : OneHot.read s bytes ≡ served 0 t = Answers.passed_is v (served 0 t) (λ refusal. refused refusal s) passes in
+    let read : OneHot.read s bytes ≡ served t = Answers.passed_is v (served t) (λ refusal. refused refusal s) passes in
     rw read
-    (Answers.writes_is (Questions.write t.width t.picks t.head t.width (length former)) t (served 0 t) (OneHot.image t.width t.head) former
+    (Answers.writes_is (Questions.write t.width t.picks t.head t.width (length former)) t (served t) (OneHot.image t.width t.head) former
     (Asked.writes t.width t.picks t.head t.width (length former) allowed (e ∙ r.long))
     ∙ rw same)

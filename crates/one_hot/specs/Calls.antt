@@ -28,9 +28,9 @@ questions n m h bytes =
 -- reading one "takes a state and replaces its head"
 abbrev pub read : State → List ℕ → Answer
 read s bytes =
-    let v = questions s.width s.picks s.head bytes in if_passed v (served 0 (moved s (head_of bytes))) (λ refusal. refused refusal s)
+    let v = questions s.width s.picks s.head bytes in if_passed v (served (moved s (head_of bytes))) (λ refusal. refused refusal s)
 
 -- writing one "shows the head of a state"
 abbrev pub write : State → List ℕ → Outcome
 write s former =
-    writes (Questions.write s.width s.picks s.head s.width (length former)) s (served 0 s) (image s.width s.head) former
+    writes (Questions.write s.width s.picks s.head s.width (length former)) s (served s) (image s.width s.head) former

@@ -11,10 +11,10 @@ use Rattle.one_hot.specs.Calls as OneHot
 abbrev pub ImageReadBack : Type 0
 ImageReadBack =
     (s t : State) (former : List ℕ) → number (OneHot.write s former).answer ≡ 0 → Questions.state t.width t.picks t.head ≡ Questions.passed
-    → t.width ≡ s.width → OneHot.read t (OneHot.write s former).written ≡ served 0 (moved t s.head)
+    → t.width ≡ s.width → OneHot.read t (OneHot.write s former).written ≡ served (moved t s.head)
 
 -- the state that an image was read into writes the same image
 abbrev pub ImageWrittenBack : Type 0
 ImageWrittenBack =
     (s : State) (bytes former : List ℕ) → number (OneHot.read s bytes) ≡ 0 → length former ≡ length bytes
-    → let t = (OneHot.read s bytes).state in OneHot.write t former ≡ record { answer = served 0 t; written = bytes }
+    → let t = (OneHot.read s bytes).state in OneHot.write t former ≡ record { answer = served t; written = bytes }

@@ -2,18 +2,15 @@
 -- Assumes nothing.
 use Prim.Native.Nat.{ℕ, ◌+◌, ◌*◌, ◌/◌, ◌%◌, ◌≤◌, ◌<◌}
 use mathlib.Core.Path.{◌≡◌, sym, ap, ◌∙◌}
-use mathlib.Core.Bool.{Bool}
 use mathlib.Core.List.{List, [], map}
 use native.Mathlib.Omega.{arith}
 use lib.Dec.{eqb, ltb}
 use lib.ListN.{length, get_or, get_or-eq_default}
 use borrow.Author.Tests.{eq-eqb, ltb-true, ltb-false}
 use Rattle.rules.specs.Head.{Head}
-use Rattle.rules.specs.Lists.{member}
 use Rattle.rules.specs.Lists.Laws as Lists
 use Rattle.rules.specs.Packing.{line, packed_length, pack, unpack}
 use Rattle.rules.proofs.Packing.Laws as Packing
-use Rattle.rules.specs.RoundRobin.{granted, grants}
 use Rattle.rules.proofs.RoundRobin.Laws as RoundRobin
 use Rattle.arbiter.specs.Answers.{Outcome}
 use Rattle.arbiter.specs.Answers.Laws.{writes_passed, writes_is}
@@ -35,12 +32,6 @@ low bytes bits i =
     (λ t. bits i (ltb-true i (length bytes) t))
     (λ f. omega (arith, get_or-eq_default bytes 0 {n = i} (ltb-false i (length bytes) f)))
 
--- a grant buffer is such
-grants_low : (n m : ℕ) (h : Head) (asks : ℕ → Bool) → Bits (grants n m h asks)
-grants_low n m h asks i l =
-    let k : i < n = omega (arith, RoundRobin.grants_length n m h asks) in
-    rw (RoundRobin.grants_member n m h asks i k) (Lists.bit_le (member i (granted n m h asks)))
-
 pub served_unpacked : ServedUnpacked
 served_unpacked s requests former bytes z room =
     let n = s.width in
@@ -55,7 +46,7 @@ served_unpacked s requests former bytes z room =
     let size = RoundRobin.grants_length n s.picks s.head (Scan.asking s wires) in
     let back : unpack n (pack (Scan.granting s wires)) ≡ Scan.granting s wires =
     ap (λ (k : ℕ). unpack k (pack (Scan.granting s wires))) (sym size)
-    ∙ Packing.unpack_pack (Scan.granting s wires) (low (Scan.granting s wires) (grants_low n s.picks s.head (Scan.asking s wires))) in
+    ∙ Packing.unpack_pack (Scan.granting s wires) (RoundRobin.grants_bit n s.picks s.head (Scan.asking s wires)) in
     let is = writes_is v s (Scan.answer s wires) (pack (Scan.granting s wires)) former p in
     writes_is (Scan.questions s wires (length bytes)) s (Scan.answer s wires) (Scan.granting s wires) bytes passes
     ∙ sym (ap (λ (o : Outcome). record { answer = o.answer; written = unpack n o.written }) is

@@ -45,9 +45,9 @@ impl Arbiter for PackedScan {
 }
 
 impl PackedScan {
-    // One cycle: writes the grant of these requests, both packed, and answers with the count of grants and the next state. Asks 1,
-    // 3, 4, 5, 6 and 14. With 11 stations, head 8 and stations 0 and 3 asking, requests 9 0, it grants 0, grants 1 0, and the next
-    // head is 1.
+    // One cycle: writes the grant of these requests, both packed, and answers with the count of grants, the next state, and
+    // whether more are pending. Asks 1, 3, 4, 5, 6 and 14. With 11 stations, head 8 and stations 0 and 3 asking, requests 9 0, it
+    // grants 0, grants 1 0, the next head is 1, and more are pending.
     pub fn cycle(self, requests: &[u8], grants: &mut [u8]) -> Answer
         ensures value { result ≡ (Calls.cycle self.0 requests.now grants.old).answer }
         ensures grants_after { grants.new ≡ (Calls.cycle self.0 requests.now grants.old).written }
@@ -89,7 +89,8 @@ fn grant(width: usize, head: Head, requests: &[u8], grants: &mut [u8]) -> Decisi
         return idle(width, head);
     };
     grants[station / 8] = lines::single(station);
-    decide(width, head, 1, Some(station))
+    let more = *requests != *grants;
+    decide(width, head, 1, Some(station), more)
 }
 
 // The first station that asks from `first` on and then round, or none. In the byte of `first` it looks from that line on. Where none

@@ -1,6 +1,6 @@
 -- Thermometer codes by counting.
 -- Assumes nothing.
-use Rattle.std.specs.Prelude.{ℕ, ◌+◌, Bool, cond, min, ◌&&◌, Option, None, Some, List, [], ◌∷◌, leb, eqb, get_or, count_by, slice_range}
+use Rattle.std.specs.Prelude.{ℕ, ◌+◌, Bool, cond, min, ◌&&◌, Option, None, Some, List, [], ◌∷◌, leb, ltb, eqb, get_or, count_by, slice_range}
 pub mod Laws
 
 -- the codes of the counts 0 to 8
@@ -27,6 +27,8 @@ allowed m = leb 1 m && leb m 8
 unfoldable pub is_code : ℕ → ℕ → Bool
 is_code m byte = allowed m && eqb (code (counted m byte)) byte
 
--- the saturated sum of two codes for m picks, where both are codes
-unfoldable pub sum : ℕ → ℕ → ℕ → Option ℕ
-sum m left right = cond (is_code m left && is_code m right) (Some (code (min m (counted m left + counted m right)))) None
+-- the saturated sum of two codes for m picks, and whether m cuts it off, where both are codes
+unfoldable pub sum : ℕ → ℕ → ℕ → Option (ℕ × Bool)
+sum m left right =
+    let both = counted m left + counted m right in
+    cond (is_code m left && is_code m right) (Some (code (min m both), ltb m both)) None

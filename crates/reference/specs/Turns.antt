@@ -47,6 +47,10 @@ ahead c w = min c.picks (nearer c w)
 unfoldable pub count : Cycle → ℕ
 count c = min c.picks (tally (asks c) 0 c.width)
 
+-- more are pending: more ask than are granted
+unfoldable pub more : Cycle → Bool
+more c = ltb (count c) (tally (asks c) 0 c.width)
+
 -- the farthest distance of a granted station, where there is one
 unfoldable pub reach : Cycle → Option ℕ
 reach c = reduce max (map (distance c) (filter (granted c) (range_with_len 0 c.width)))

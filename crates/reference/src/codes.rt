@@ -13,15 +13,17 @@ pub fn is_code(picks: usize, byte: u8) -> bool
     (1..=8).contains(&picks) && CODES[counted(picks, byte)] == byte
 }
 
-// The code of the sum of the counts of two codes, or of `picks` if that is smaller. None where one of them is no code for `picks`.
+// The code of the sum of the counts of two codes, or of `picks` if that is smaller, and whether it is. None where one of them is no
+// code for `picks`.
 #[tactic(auto, using(crate::specs::Codes::Laws::code_picks, crate::specs::Codes::Laws::counted_le), unfolding(crate::specs::Codes::sum, crate::specs::Codes::code))]
-pub fn sum(picks: usize, left: u8, right: u8) -> Option<u8>
+pub fn sum(picks: usize, left: u8, right: u8) -> Option<(u8, bool)>
     ensures { result ≡ Codes.sum picks left right }
 {
     if !is_code(picks, left) || !is_code(picks, right) {
         return None;
     }
-    Some(CODES[picks.min(counted(picks, left) + counted(picks, right))])
+    let both = counted(picks, left) + counted(picks, right);
+    Some((CODES[picks.min(both)], picks < both))
 }
 
 // The count of a code: how many of the codes of 1 to `picks` it is no less than.

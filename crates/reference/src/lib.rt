@@ -81,6 +81,14 @@ impl Cycle<'_> {
         self.picks.min(self.asking(0, self.width))
     }
 
+    // Whether more are pending: more ask than are granted.
+    #[tactic(auto, unfolding(crate::specs::Turns::more))]
+    pub fn more(&self) -> bool
+        ensures { result ≡ Turns.more self.now }
+    {
+        self.count() < self.asking(0, self.width)
+    }
+
     // The next head: one past the granted station that is farthest from the start. If no one is granted a head stays, and no head
     // becomes the last station.
     #[tactic(auto, using(crate::specs::Turns::Laws::reach_le), unfolding(crate::specs::Turns::next, crate::specs::Turns::idle))]

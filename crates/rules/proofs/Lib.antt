@@ -6,3 +6,4 @@ pub mod Thermometer
 pub mod KoggeStone
 pub mod Packing
 pub mod Bus
+pub mod Pending

@@ -1,4 +1,5 @@
 -- What follows from the definitions of the thermometer code.
 pub mod Laws
+pub mod Cuts
 pub mod Running
 mod Known

@@ -1,11 +1,12 @@
 -- The Kogge-Stone network that counts: 02, N1, after 004. It works on codes, one for each position of the order: position 0 is
 -- the first station's. It is shut like the round-robin rule: the engine goes by Laws.
 -- Assumes nothing.
-use Rattle.std.specs.Prelude.{ℕ, ◌-◌, ◌^◌, Bool, cond, List, [], ◌∷◌, map, ltb, length, get_or}
+use Rattle.std.specs.Prelude.{ℕ, ◌-◌, ◌^◌, Bool, false, cond, ◌||◌, List, [], ◌∷◌, map, ltb, length, get_or}
 use Rattle.rules.specs.Head.{Head}
+use Rattle.std.specs.List.{list_any}
 use Rattle.rules.specs.Lists.{range, filter, before}
 use Rattle.rules.specs.RoundRobin.{order}
-use Rattle.rules.specs.Thermometer.{add, inputs}
+use Rattle.rules.specs.Thermometer.{add, cuts, inputs}
 pub mod Laws
 pub mod Known
 
@@ -28,6 +29,19 @@ levels m (d ∷ ds) codes = levels m ds (joined m d codes)
 -- station included
 pub network : ℕ → ℕ → Head → (ℕ → Bool) → List ℕ
 network n m h asks = levels m (distances n) (inputs n m h asks)
+
+-- whether an adder of a joining cuts anything off (02, N5)
+pub joined_cuts : ℕ → ℕ → List ℕ → Bool
+joined_cuts m d codes = list_any (λ p. cuts m (get_or codes (p - d) 0) (get_or codes p 0)) (range d (length codes - d))
+
+-- at one distance or another
+pub levels_cut : ℕ → List ℕ → List ℕ → Bool
+levels_cut m [] codes = false
+levels_cut m (d ∷ ds) codes = joined_cuts m d codes || levels_cut m ds (joined m d codes)
+
+-- whether any adder of the network does
+pub network_cuts : ℕ → ℕ → Head → (ℕ → Bool) → Bool
+network_cuts n m h asks = levels_cut m (distances n) (inputs n m h asks)
 
 -- the counts before the positions: nobody before the first, and before every other what comes out at the position before it
 pub counts : ℕ → ℕ → Head → (ℕ → Bool) → List ℕ

@@ -7,3 +7,4 @@ pub mod Thermometer
 pub mod KoggeStone
 pub mod Packing
 pub mod Bus
+pub mod Pending

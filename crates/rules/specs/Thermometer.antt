@@ -20,6 +20,10 @@ is_code m byte = eqb byte (code (ones byte)) && leb (ones byte) m
 unfoldable pub add : ℕ → ℕ → ℕ → ℕ
 add m a b = code (min m (ones a + ones b))
 
+-- 02, N5, "whether it cut anything off": the counts add up to more than m
+unfoldable pub cuts : ℕ → ℕ → ℕ → Bool
+cuts m a b = ltb m (ones a + ones b)
+
 -- 01's "saturated count" of station w: those that ask before it in turn order, m at the most
 unfoldable pub saturated : ℕ → ℕ → Head → (ℕ → Bool) → ℕ → ℕ
 saturated n m h asks w = min m (count asks (before w (order n h)))

@@ -57,7 +57,8 @@ impl RoundRobin for Scan {
             begun,
         );
         let walk = walk_run(cycle.picks, cycle.requests, cycle.grants, 0, first, half);
-        decide(width, cycle.head, walk.count, walk.last)
+        let more = cycle.pending(walk.count);
+        decide(width, cycle.head, walk.count, walk.last, more)
     }
 }
 

@@ -64,7 +64,7 @@ holds n m (Some h) l =
     }
 
 -- a state that passes 1, 3 and 4 is read from its snapshot
-read_saved : (s : State) → Asked.Allowed s.width s.picks s.head → Snapshot.read (saved s) ≡ served 0 s
+read_saved : (s : State) → Asked.Allowed s.width s.picks s.head → Snapshot.read (saved s) ≡ served s
 read_saved s a =
     let bytes = saved s in
     let k = holds s.width s.picks s.head a.some in
@@ -76,19 +76,19 @@ read_saved s a =
     let passes : questions bytes ≡ passed =
     Asked.then_passed (Snapshot.read_length (length bytes)) _ five
     (sym (Saved.asked bytes (omega arith) five) ∙ rest) in
-    let same : served 0 (made f.width f.picks (head_of f)) ≡ served 0 s = rw (k.width, k.picks, k.head) in
+    let same : served (made f.width f.picks (head_of f)) ≡ served s = rw (k.width, k.picks, k.head) in
     Answers.passed_is (questions bytes) _ _ passes ∙ same
 
 pub snapshot_read_back : SnapshotReadBack
 snapshot_read_back s former z =
     let v = Questions.write s.width s.picks s.head Snapshot.size (length former) in
-    let passes : v ≡ passed = Answers.writes_passed v s (served 0 s) (saved s) former z in
+    let passes : v ≡ passed = Answers.writes_passed v s (served s) (saved s) former z in
     let a = (Asked.writable s.width s.picks s.head Snapshot.size (length former) passes).allows in
-    ap (λ o. Snapshot.read o.written) (Answers.writes_is v s (served 0 s) (saved s) former passes) ∙ read_saved s a
+    ap (λ o. Snapshot.read o.written) (Answers.writes_is v s (served s) (saved s) former passes) ∙ read_saved s a
 
 -- what is known of a snapshot that is served
 record Served (bytes : List ℕ) : Type 0 where
-  pub read : Snapshot.read bytes ≡ served 0 (made (fields bytes).width (fields bytes).picks (head_of (fields bytes)))
+  pub read : Snapshot.read bytes ≡ served (made (fields bytes).width (fields bytes).picks (head_of (fields bytes)))
   pub allows : Asked.Allowed (fields bytes).width (fields bytes).picks (head_of (fields bytes))
   pub clean : (eqb (fields bytes).mark 1 || eqb (fields bytes).station 0) ≡ true
   pub mark : get_or bytes (length bytes - 1) 0 ≤ 1
@@ -152,7 +152,7 @@ snapshot_written_back bytes former byte long z e =
     let last : length bytes - 1 ≡ 5 = omega arith in
     let same : saved s ≡ bytes = rw six (saved_held bytes byte long (rw last at k.mark) (rw six at k.clean)) in
     rw k.read
-    (Answers.writes_is (Questions.write s.width s.picks s.head Snapshot.size (length former)) s (served 0 s) (saved s) former
+    (Answers.writes_is (Questions.write s.width s.picks s.head Snapshot.size (length former)) s (served s) (saved s) former
     (Asked.writes f.width f.picks (head_of f) Snapshot.size (length former) k.allows e)
     ∙ rw same)
 

@@ -108,4 +108,4 @@ read bytes =
 
 -- writing one: "6 asks six"
 abbrev pub write : State → List ℕ → Outcome
-write s former = writes (Questions.write s.width s.picks s.head size (length former)) s (served 0 s) (saved s) former
+write s former = writes (Questions.write s.width s.picks s.head size (length former)) s (served s) (saved s) former

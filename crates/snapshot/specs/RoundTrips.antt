@@ -10,14 +10,14 @@ use Rattle.snapshot.specs.Calls as Snapshot
 abbrev pub SnapshotReadBack : Type 0
 SnapshotReadBack =
     (s : State) (former : List ℕ) → number (Snapshot.write s former).answer ≡ 0
-    → Snapshot.read (Snapshot.write s former).written ≡ served 0 s
+    → Snapshot.read (Snapshot.write s former).written ≡ served s
 
 -- the state that six bytes gave has them for its snapshot; a snapshot's numbers are bytes
 abbrev pub SnapshotWrittenBack : Type 0
 SnapshotWrittenBack =
     (bytes former : List ℕ) → ((i : ℕ) → get_or bytes i 0 < 256) → length bytes ≡ Snapshot.size → number (Snapshot.read bytes) ≡ 0
     → length former ≡ Snapshot.size
-    → let s = (Snapshot.read bytes).state in Snapshot.write s former ≡ record { answer = served 0 s; written = bytes }
+    → let s = (Snapshot.read bytes).state in Snapshot.write s former ≡ record { answer = served s; written = bytes }
 
 -- "Four-byte forms .. mean the same state": one that is served gives what the snapshot of its state gives
 abbrev pub ShortReadAlike : Type 0

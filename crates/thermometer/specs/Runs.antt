@@ -1,16 +1,17 @@
 -- What a run of the walk promises. The promise of the arbiter's calls is arbiter's Cycle.
 -- Assumes nothing.
-use Rattle.std.specs.Prelude.{ℕ, ◌-◌, ◌≡◌, List, map, get_or, None}
+use Rattle.std.specs.Prelude.{ℕ, ◌-◌, ◌≡◌, false, ◌||◌, List, map, ltb, get_or, None}
 use Rattle.std.specs.Int.Count.{ones}
 use Rattle.rules.specs.Lists.{range}
 use Rattle.rules.specs.Thermometer.{input, running}
 use Rattle.rules.specs.Walk as Walks
+use Rattle.rules.specs.Walk.{reached}
 use Rattle.arbiter.specs.Decisions.{requested}
 use Rattle.thermometer.specs.declared.Walk.{Walk}
 
 -- no walk yet
 abbrev pub begun : Walk
-begun = record { code = 0; last = None }
+begun = record { code = 0; last = None; more = false }
 
 -- the requests of so many stations from one on, as codes
 abbrev pub asked : ℕ → List ℕ → ℕ → ℕ → List ℕ
@@ -22,8 +23,10 @@ abbrev pub code_at : ℕ → List ℕ → ℕ → ℕ → ℕ → ℕ → ℕ
 code_at m requests from to c w = get_or (running m c (asked m requests from (to - from))) (w - from) 0
 
 -- such a run: the walk and the grant buffer before it, and those after it. It starts from the code that is handed to it, whatever was
--- counted before; each of its stations is judged by the running code before it; and it hands on the one past its last station
+-- counted before; each of its stations is judged by the running code before it; it hands on the one past its last station; and it
+-- says whether it counted on to more than m, or what was handed to it says so (02, N5)
 pub record Ran (m : ℕ) (requests : List ℕ) (from to : ℕ) (walk : Walk) (old : List ℕ) (now : Walk) (new : List ℕ) : Type 0 where
   pub carried : now.code ≡ code_at m requests from to walk.code to
   pub ran : Walks.RanBy m (requested requests) (λ w. ones (code_at m requests from to walk.code w)) from to
       (ones walk.code) walk.last old (ones now.code) now.last new
+  pub more : now.more ≡ (walk.more || ltb m (reached (requested requests) from to (ones walk.code)))

@@ -28,9 +28,25 @@ impl Picks {
     }
 }
 
-// The code of the sum of two counts, or of the picks if that is smaller. Asks 3 and 13. With 2 picks 01 and 01 give 11, 11 and
-// 01 give 11, and 10 is refused by 13.
-pub fn add(picks: usize, left: u8, right: u8) -> Result<u8, Refusal>
+// What the adder answers: the code of the sum of two counts, or of the picks if that is smaller; and whether it cut anything off, which
+// it did exactly if the counts add up to more than the picks (N5).
+#[derive(Clone, Copy, Debug, PartialEq, Eq)]
+pub struct Sum {
+    pub code: u8,
+    pub cut: bool,
+}
+
+// What a step of a running count answers: the code of the sum as in `Sum`; and the code of the whole sum, which is above that of the
+// picks exactly if something was cut off. So of many steps' whole sums, or'ed, one comparison tells whether any step cut anything off.
+#[derive(Clone, Copy)]
+pub(crate) struct StepSum {
+    pub(crate) code: u8,
+    pub(crate) whole: u32,
+}
+
+// The saturated sum. Asks 3 and 13. With 2 picks 01 and 01 give 11, and nothing is cut off; 11 and 01 give 11, and something is; 10 is
+// refused by 13.
+pub fn add(picks: usize, left: u8, right: u8) -> Result<Sum, Refusal>
     ensures { result ≡ Adder.sum picks left right }
 {
     question::refuse_unless((1 <= picks) & (picks <= MAX_PICKS), Refusal::Picks)?;
@@ -39,23 +55,31 @@ pub fn add(picks: usize, left: u8, right: u8) -> Result<u8, Refusal>
     Ok(join(picks, left, right))
 }
 
-// The code of the counts' sum, or of the picks if that is smaller.
-fn join(picks: usize, left: u8, right: u8) -> u8
+// The sum of two codes' counts.
+fn join(picks: usize, left: u8, right: u8) -> Sum
     requires { picks ≤ 8 }
-    ensures { result ≡ Rule.add picks left right }
+    ensures { result ≡ Adder.joined picks left right }
 {
-    code((count(left) + count(right)).min(picks))
+    let sum = count(left) + count(right);
+    Sum {
+        code: code(sum.min(picks)),
+        cut: picks < sum,
+    }
 }
 
-// One step of a running count: the sum of a code and a request's code, which is 0 or 1. The code of one more is 2 * code + 1,
-// of which the code of the picks keeps what they allow, and a request of 0 nothing. It calls no function, not even `u32::from`.
-pub(crate) fn step(picks: Picks, code: u8, request: u8) -> u8
+// One step of a running count: the sum of a code and a request's code, which is 0 or 1. The code of one more is 2 * code + 1, of which a
+// request of 0 keeps nothing; and of the whole sum the code of the picks keeps what they allow. It calls no function, not even
+// `u32::from`.
+pub(crate) fn step(picks: Picks, code: u8, request: u8) -> StepSum
     requires code_value { Rule.is_code (ones picks.code) code ≡ true }
     requires request_bound { request ≤ 1 }
-    ensures { result ≡ Rule.add (ones picks.code) code request }
+    ensures { result ≡ Adder.step (ones picks.code) code request }
 {
-    let more = (2 * (code as u32) + 1) & ((picks.code as u32) * (request as u32));
-    code | (more as u8)
+    let whole = (code as u32) | ((2 * (code as u32) + 1) * (request as u32));
+    StepSum {
+        code: (whole & (picks.code as u32)) as u8,
+        whole,
+    }
 }
 
 // The code of a count. A byte has room for eight: of a larger count it is the code of 8. The cast loses nothing.

@@ -20,11 +20,12 @@ use rules::Head;
 #[derive(Clone, Copy)]
 pub struct Thermometer(pub State);
 
-// How far a walk has come: the code of how many it has counted, and whom it granted last.
+// How far a walk has come: the code of how many it has counted, whom it granted last, and whether the adder has cut anything off.
 #[derive(Clone, Copy)]
 struct Walk {
     code: u8,
     last: Option<usize>,
+    more: bool,
 }
 
 impl Arbiter for Thermometer {
@@ -53,6 +54,7 @@ impl RoundRobin for Thermometer {
         let begun = Walk {
             code: 0,
             last: None,
+            more: false,
         };
         let half = count_run(
             cycle.picks,
@@ -64,13 +66,14 @@ impl RoundRobin for Thermometer {
         );
         let walk = count_run(cycle.picks, cycle.requests, cycle.grants, 0, first, half);
         let count = adder::count(walk.code);
-        decide(width, cycle.head, count, walk.last)
+        decide(width, cycle.head, count, walk.last, walk.more)
     }
 }
 
 // Goes along the stations from `from` up to `to`, one adder step for each: a station is granted if the count rises, which it does
-// if the station asks and the count before it is below the picks. `walk` is how far the walk has come before, and the result how
-// far it has come then. A run takes the buffers and not the cycle, of which it would have to promise what stays.
+// if the station asks and the count before it is below the picks. `reach` is the code of the largest whole sum of the run: above that of
+// the picks, it says that a step has cut something off. `walk` is how far the walk has come before, and the result how far it has come
+// then. A run takes the buffers and not the cycle, of which it would have to promise what stays.
 #[tactic(auto, using(rules::proofs::Thermometer::Laws::full_is_code, rules::proofs::Thermometer::Laws::full_ones))]
 fn count_run(
     picks: usize,
@@ -94,13 +97,16 @@ fn count_run(
         code: adder::code(picks),
     };
     let mut walk = walk;
+    let mut reach = 0;
     for i in from..to {
         let sum = adder::step(full, walk.code, requests[i]);
-        if sum != walk.code {
+        reach |= sum.whole;
+        if sum.code != walk.code {
             grants[i] = 1;
-            walk.code = sum;
+            walk.code = sum.code;
             walk.last = Some(i);
         }
     }
+    walk.more |= (full.code as u32) < reach;
     walk
 }

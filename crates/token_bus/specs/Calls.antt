@@ -4,6 +4,7 @@ use Rattle.std.specs.Prelude.{ℕ, Bool, List, length, Some}
 use Rattle.rules.specs.Head.{Head}
 use Rattle.rules.specs.RoundRobin.{start}
 use Rattle.rules.specs.Bus as Bus
+use Rattle.rules.specs.Pending.{more}
 use Rattle.arbiter.specs.declared.Answer.{Answer}
 use Rattle.arbiter.specs.declared.Decision.{Decision}
 use Rattle.arbiter.specs.declared.State.{State}
@@ -25,9 +26,11 @@ opening n m h = opened (state n m h) n m h
 abbrev pub token : State → ℕ
 token s = start s.head
 
--- what a cycle decides, apart from any state: how many are granted, and the next token
+-- what a cycle decides, apart from any state: how many are granted, the next token, and whether more are pending (02, N5: "also the
+-- bus")
 abbrev pub decision : ℕ → ℕ → Bool → (ℕ → Bool) → Decision
-decision n t ack asks = record { count = length (Bus.granted n t asks); next = Some (Bus.next n t ack asks) }
+decision n t ack asks =
+    let gs = Bus.granted n t asks in record { count = length gs; next = Some (Bus.next n t ack asks); more = more n asks gs }
 
 -- the answer of a served cycle
 abbrev pub answer : State → List ℕ → ℕ → Answer

@@ -41,9 +41,9 @@ impl Arbiter for TokenBus {
 }
 
 impl TokenBus {
-    // One cycle: writes the grant of these requests, and answers with the count of grants and the next state. Asks 1, 3, 4, 5,
-    // 6, 8 and 9. With 4 stations, token 2 and stations 0 and 1 asking it grants 0; the next token is 3 where acknowledge is 1,
-    // and 2 where it is 0.
+    // One cycle: writes the grant of these requests, and answers with the count of grants, the next state, and whether more
+    // are pending. Asks 1, 3, 4, 5, 6, 8 and 9. With 4 stations, token 2 and stations 0 and 1 asking it grants 0, and more are pending;
+    // the next token is 3 where acknowledge is 1, and 2 where it is 0.
     #[tactic(auto, using(crate::specs::Calls::Laws::answered_cycle))]
     pub fn cycle(self, requests: &[u8], grants: &mut [u8], acknowledge: u8) -> Answer
         ensures value { result ≡ (Calls.cycle self.0 requests.now grants.old acknowledge).answer }
@@ -86,8 +86,9 @@ fn arbitrate(
 }
 
 // Writes the grant of a cycle, and says what it decides: the token stays where nobody is granted.
-#[tactic(auto, using(crate::specs::Calls::Laws::idle_decides, crate::specs::Calls::Laws::idle_grants, crate::specs::Calls::Laws::granted_decides, crate::specs::Calls::Laws::granted_grants))]
+#[tactic(auto, using(crate::specs::Calls::Laws::idle_decides, crate::specs::Calls::Laws::idle_grants, crate::specs::Calls::Laws::granted_grants))]
 fn grant(cycle: &mut ServedCycle<'_>, acknowledged: bool) -> Decision
+    requires { cycle.old.picks ≡ 1 }
     ensures value { result ≡ Calls.decision (length cycle.old.requests.now) (start cycle.old.head) acknowledged (requested cycle.old.requests.now) }
     ensures same_reference { cycle.new.grants.ghost_name ≡ cycle.old.grants.ghost_name }
     ensures grants_after { cycle.new.grants.now ≡ Bus.grants (length cycle.old.requests.now) (start cycle.old.head) (requested cycle.old.requests.now) }
@@ -99,9 +100,11 @@ fn grant(cycle: &mut ServedCycle<'_>, acknowledged: bool) -> Decision
         return headed(Some(token));
     };
     cycle.grants[station] = 1;
+    let more = cycle.pending(1);
     Decision {
         count: 1,
         next: Some(pass(width, token, acknowledged)),
+        more,
     }
 }
 

@@ -1,5 +1,5 @@
--- The tree's calls with any input: 01, "The tree" and "Questions each call asks, in this order". Grants, count and next head are
--- the round-robin rule's, as in arbiter's Cycle.
+-- The tree's calls with any input: 01, "The tree" and "Questions each call asks, in this order". Grants, count, next head and
+-- whether more are pending are the round-robin rule's, as in arbiter's Cycle.
 -- Assumes nothing.
 use Rattle.std.specs.Prelude.{ℕ, List, length}
 use Rattle.rules.specs.Head.{Head}

@@ -1,10 +1,7 @@
 -- What the steps of the tree's cycle promise. The promise of its calls is Calls.
 -- Assumes nothing.
 use Rattle.std.specs.Prelude.{ℕ, ◌+◌, ◌-◌, ◌*◌, ◌≤◌, ◌<◌, ◌≡◌, List, length, get_or, drop}
-use Rattle.rules.specs.Head.{Head}
 use Rattle.rules.specs.Tree as Rule
-use Rattle.arbiter.specs.declared.Decision.{Decision}
-use Rattle.arbiter.specs.Decisions.{deciding}
 pub mod Laws
 
 -- every byte of a node buffer for n stations is a node's value
@@ -35,7 +32,3 @@ pub record DoneFrom (low n : ℕ) (tree t : List ℕ) : Type 0 where
   pub most : low ≤ n
   pub values : ValuesFrom low n t
   pub same : Rule.joined (low - 1) (drop low t) ≡ tree
-
--- what is decided by the node buffer t
-abbrev pub descended : ℕ → Head → List ℕ → Decision
-descended n h t = deciding n h (Rule.chosen n t)

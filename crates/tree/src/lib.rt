@@ -10,6 +10,7 @@ ghost use Rattle.std.specs.Prelude.{◌≡◌, ◌*◌, ◌≤◌, length, repli
 ghost use Rattle.rules.specs.RoundRobin as RoundRobin;
 ghost use Rattle.rules.specs.Tree as Rule;
 ghost use Rattle.arbiter.specs.Answers as Answers;
+ghost use Rattle.arbiter.specs.Places as Places;
 ghost use Rattle.arbiter.specs.Decisions.{requested, decision};
 ghost use Rattle.arbiter.specs.Questions.{◌then◌};
 ghost use Rattle.tree.specs.Calls as Calls;
@@ -18,7 +19,7 @@ ghost use Rattle.tree.specs.Steps as Steps;
 use arbiter::engine::{Arbiter, ServedCycle};
 use arbiter::question::Verdict;
 use arbiter::refusal::Refusal;
-use arbiter::{Answer, Decision, State, decide, idle};
+use arbiter::{Answer, Decision, State, decide};
 use nodes::Nodes;
 use rules::Head;
 
@@ -43,8 +44,8 @@ impl Arbiter for Tree {
 
 impl Tree {
     // One cycle: writes the grants of these requests and the tree of the requests and the head, and answers with the count of
-    // the grants and the next state. Asks 1, 2, 3, 4, 5, 6, 7 and 8. With 4 stations, head 2 and stations 0 and 1 asking it
-    // grants 0, the next head is 1, and the nodes are 0 2 1 2 1 1 2 0.
+    // the grants, the next state, and whether more are pending. Asks 1, 2, 3, 4, 5, 6, 7 and 8. With 4 stations, head 2 and stations 0
+    // and 1 asking it grants 0, the next head is 1, more are pending, and the nodes are 0 2 1 2 1 1 2 0.
     #[tactic(auto, using(crate::specs::Calls::Laws::answered_cycle))]
     pub fn cycle(self, requests: &[u8], grants: &mut [u8], nodes: &mut [u8]) -> Answer
         ensures value { result ≡ (Calls.cycle self.0 requests.now grants.old nodes.old).answer }
@@ -58,7 +59,7 @@ impl Tree {
 }
 
 // The questions of a cycle, and what it decides where they pass.
-#[tactic(auto, using(crate::specs::Calls::Laws::ready, crate::specs::Calls::Laws::tree_decides, crate::specs::Calls::Laws::tree_grants, crate::specs::Calls::Laws::tree_values))]
+#[tactic(auto, using(crate::specs::Calls::Laws::ready, crate::specs::Calls::Laws::tree_grants, crate::specs::Calls::Laws::tree_values))]
 fn arbitrate(
     width: usize,
     picks: usize,
@@ -83,15 +84,20 @@ fn arbitrate(
         bytes: nodes,
     };
     tree.build(&cycle);
-    Ok(grant(&tree, &mut cycle))
+    let granted = grant(&tree, &mut cycle);
+    let count = usize::from(granted.is_some());
+    let more = cycle.pending(count);
+    Ok(decide(width, head, count, granted, more))
 }
 
-// Grants the station that the descent reaches, if it asks.
-#[tactic(auto, using(rules::proofs::Tree::Laws::reached_station, crate::specs::Steps::Laws::descended_none, crate::specs::Steps::Laws::grants_one, crate::specs::Steps::Laws::grants_none))]
-fn grant(tree: &Nodes, cycle: &mut ServedCycle<'_>) -> Decision
+// Writes the grant of the station that the descent reaches, if it asks, and answers with it.
+#[tactic(auto, using(rules::proofs::Tree::Laws::reached_station, crate::specs::Steps::Laws::chosen_one, crate::specs::Steps::Laws::chosen_none, crate::specs::Steps::Laws::grants_one, crate::specs::Steps::Laws::grants_none))]
+fn grant(tree: &Nodes, cycle: &mut ServedCycle<'_>) -> Option<usize>
     requires width_value { tree.now.width ≡ length cycle.old.requests.now }
     requires values { Steps.Values tree.now.width tree.now.bytes.now }
-    ensures value { result ≡ Steps.descended tree.now.width cycle.old.head tree.now.bytes.now }
+    ensures value { result ≡ Places.first (Rule.chosen tree.now.width tree.now.bytes.now) }
+    ensures same_picks { cycle.new.picks ≡ cycle.old.picks }
+    ensures same_requests { cycle.new.requests.now ≡ cycle.old.requests.now }
     ensures same_reference { cycle.new.grants.ghost_name ≡ cycle.old.grants.ghost_name }
     ensures grants_after { cycle.new.grants.now ≡ Rule.grants tree.now.width tree.now.bytes.now }
 {
@@ -100,7 +106,7 @@ fn grant(tree: &Nodes, cycle: &mut ServedCycle<'_>) -> Decision
     let leaf = tree.width + station;
     if nodes::s0(tree.bytes[leaf]) {
         cycle.grants[station] = 1;
-        return decide(tree.width, cycle.head, 1, Some(station));
+        return Some(station);
     }
-    idle(tree.width, cycle.head)
+    None
 }

@@ -4,6 +4,7 @@ use crate::engine::Engine;
 use arbiter::refusal::Refusal;
 use arbiter::{Answer, State};
 use rules::Head;
+use thermometer::adder::Sum;
 
 // The state of these.
 pub(crate) fn state(width: usize, picks: usize, head: Head) -> State {
@@ -17,20 +18,26 @@ const NOTHING: State = State {
     head: None,
 };
 
-// Whether a call is served with this count and leaves this state.
-pub(crate) fn serves(a: Answer, count: usize, state: State) -> bool {
+// Whether a call that is no cycle is served and leaves this state: it grants no one, and no more are pending.
+pub(crate) fn serves(a: Answer, state: State) -> bool {
+    grants(a, 0, state, false)
+}
+
+// Whether a cycle is served with this count, leaves this state and says this of more that are pending.
+pub(crate) fn grants(a: Answer, count: usize, state: State, more: bool) -> bool {
     a == Answer {
         outcome: Ok(count),
         state,
+        more,
     }
 }
 
-// Whether a call is refused by this number at this place and leaves this state.
+// Whether a call is refused by this number at this place and leaves this state. No refusal says that more are pending.
 pub(crate) fn refuses(a: Answer, number: usize, place: usize, state: State) -> bool {
     let outcome = a
         .outcome
         .map_err(|refusal| (refusal.number(), refusal.place()));
-    outcome == Err((number, place)) && a.state == state
+    outcome == Err((number, place)) && a.state == state && !a.more
 }
 
 // Whether a call that makes a state is refused by this number at this place.
@@ -42,12 +49,12 @@ pub(crate) fn makes_nothing(a: Answer, number: usize, place: usize) -> bool {
 pub(crate) fn opening(engine: Engine, s: State, expected: Result<(), usize>) -> bool {
     let a = engine.open(s);
     match expected {
-        Ok(()) => serves(a, 0, s),
+        Ok(()) => serves(a, s),
         Err(number) => makes_nothing(a, number, 0),
     }
 }
 
-// Whether a sum is this code, or is refused by this number.
-pub(crate) fn sum(sum: Result<u8, Refusal>, expected: Result<u8, usize>) -> bool {
-    sum.map_err(Refusal::number) == expected
+// Whether a sum is this code and is or is not cut off, or is refused by this number.
+pub(crate) fn sum(sum: Result<Sum, Refusal>, expected: Result<(u8, bool), usize>) -> bool {
+    sum.map(|s| (s.code, s.cut)).map_err(Refusal::number) == expected
 }

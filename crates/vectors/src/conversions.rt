@@ -40,8 +40,8 @@ pub(crate) fn images(s: State) -> bool {
     let mut image = [7u8; WIDEST];
     let image = &mut image[..width];
     let other = compare::state(s.width, s.picks, Some(0));
-    compare::serves(OneHot(s).write(image), 0, s)
-        && compare::serves(OneHot(other).read(known), 0, s)
+    compare::serves(OneHot(s).write(image), s)
+        && compare::serves(OneHot(other).read(known), s)
         && &*image == known
 }
 
@@ -58,13 +58,13 @@ pub(crate) fn short_snapshots(s: State) -> bool {
 
 // Whether these bytes are read as a state.
 fn is_read(s: State, known: &[u8]) -> bool {
-    compare::serves(Snapshot::read(known), 0, s)
+    compare::serves(Snapshot::read(known), s)
 }
 
 // Whether a state is written as these bytes.
 fn is_written(s: State, known: &[u8]) -> bool {
     let mut written = [7u8; 6];
-    compare::serves(Snapshot(s).write(&mut written), 0, s) && written.as_slice() == known
+    compare::serves(Snapshot(s).write(&mut written), s) && written.as_slice() == known
 }
 
 // The width less one, low byte first, the picks, the head or 0, low byte first, and 1 if there is a head.

@@ -45,13 +45,14 @@ fn opening(i: usize) -> Option<bool> {
     Some(compare::opening(engine, compare::state(width, picks, head), expected))
 }
 
-// A cycle of the tree with 4 stations, one pick and a head: who asks, the node buffer, and the next head.
+// A cycle of the tree with 4 stations, one pick and a head: who asks, the node buffer, the next head, and whether more are pending.
 #[derive(Clone, Copy)]
 pub struct KnownCycle {
     head: usize,
     requests: [u8; 4],
     nodes: [u8; 8],
     next: usize,
+    more: bool,
 }
 
 // The cycles of 000's worked example. In it stations 0, 2 and 3 ask in each cycle. They are granted in turn.
@@ -61,18 +62,21 @@ pub(crate) static EXAMPLE: [KnownCycle; 3] = [
         requests: [1, 0, 1, 1],
         nodes: [0, 3, 3, 1, 3, 0, 1, 1],
         next: 1,
+        more: true,
     },
     KnownCycle {
         head: 1,
         requests: [1, 0, 1, 1],
         nodes: [0, 3, 2, 1, 1, 2, 1, 1],
         next: 3,
+        more: true,
     },
     KnownCycle {
         head: 3,
         requests: [1, 0, 1, 1],
         nodes: [0, 3, 1, 3, 1, 0, 1, 3],
         next: 0,
+        more: true,
     },
 ];
 
@@ -82,6 +86,7 @@ static NODE_BUFFER: KnownCycle = KnownCycle {
     requests: [1, 0, 0, 0],
     nodes: [0, 2, 2, 0, 1, 2, 0, 0],
     next: 1,
+    more: false,
 };
 
 // Whether the tree's cycle is the model's, and the model's is as is known.
@@ -89,5 +94,5 @@ pub(crate) fn node_buffer(cycle: &KnownCycle) -> bool {
     let s = compare::state(4, 1, Some(cycle.head));
     let ran = model::run(engine::TREE, s, &cycle.requests, 0);
     let noded = model::same_nodes(s, &cycle.requests, &cycle.nodes);
-    ran.same && noded && ran.state.head == Some(cycle.next)
+    ran.same && noded && ran.state.head == Some(cycle.next) && ran.more == cycle.more
 }

@@ -3,11 +3,12 @@ use crate::engine::{self, Engine, NODES, WIDEST};
 use crate::{compare, packed};
 use arbiter::State;
 
-// What a cycle came to: whether it is as the model says, and the state it left.
+// What a cycle came to: whether it is as the model says, the state it left, and whether more are pending.
 #[derive(Clone, Copy)]
 pub struct Cycle {
     pub same: bool,
     pub state: State,
+    pub more: bool,
 }
 
 // Runs one cycle that is to be served, and compares it; the packed scan's with the plain scan's too.
@@ -20,16 +21,18 @@ pub(crate) fn run(engine: Engine, s: State, requests: &[u8], acknowledge: u8) ->
     let a = engine.cycle(s, requests, grants, nodes, acknowledge);
     let model = of(s, requests);
     let next = next_head(engine, &model, acknowledge);
-    let same = compare::serves(
+    let same = compare::grants(
         a,
         model.count(),
         compare::state(s.width, s.picks, Some(next)),
+        model.more(),
     ) && same_grants(&model, grants)
         && (engine != engine::TREE || same_nodes(s, requests, nodes))
         && (engine != Engine::Packed || packed::as_scan(s, requests));
     Cycle {
         same,
         state: a.state,
+        more: a.more,
     }
 }
 

@@ -7,7 +7,7 @@ use arbiter::{Answer, State};
 use engines::Dispatch;
 use packed_scan::PackedScan;
 
-// A cycle with one pick, its wires packed, and the next head.
+// A cycle with one pick, its wires packed, the next head, and whether more are pending.
 #[derive(Clone, Copy)]
 pub struct KnownCycle {
     width: usize,
@@ -16,6 +16,7 @@ pub struct KnownCycle {
     grants: [u8; 2],
     count: usize,
     next: usize,
+    more: bool,
 }
 
 // The known cycles. In the fourth the only request is in the head's own byte, below the head.
@@ -27,6 +28,7 @@ pub(crate) static CYCLES: [KnownCycle; 7] = [
         grants: [1, 0],
         count: 1,
         next: 1,
+        more: true,
     },
     KnownCycle {
         width: 11,
@@ -35,6 +37,7 @@ pub(crate) static CYCLES: [KnownCycle; 7] = [
         grants: [8, 0],
         count: 1,
         next: 4,
+        more: true,
     },
     KnownCycle {
         width: 11,
@@ -43,6 +46,7 @@ pub(crate) static CYCLES: [KnownCycle; 7] = [
         grants: [0, 4],
         count: 1,
         next: 0,
+        more: true,
     },
     KnownCycle {
         width: 11,
@@ -51,6 +55,7 @@ pub(crate) static CYCLES: [KnownCycle; 7] = [
         grants: [8, 0],
         count: 1,
         next: 4,
+        more: false,
     },
     KnownCycle {
         width: 12,
@@ -59,6 +64,7 @@ pub(crate) static CYCLES: [KnownCycle; 7] = [
         grants: [0, 0],
         count: 0,
         next: 11,
+        more: false,
     },
     KnownCycle {
         width: 16,
@@ -67,6 +73,7 @@ pub(crate) static CYCLES: [KnownCycle; 7] = [
         grants: [0, 128],
         count: 1,
         next: 0,
+        more: true,
     },
     KnownCycle {
         width: 9,
@@ -75,6 +82,7 @@ pub(crate) static CYCLES: [KnownCycle; 7] = [
         grants: [0, 1],
         count: 1,
         next: 0,
+        more: true,
     },
 ];
 
@@ -87,7 +95,7 @@ pub(crate) fn known(cycle: &KnownCycle) -> bool {
     let next = compare::state(cycle.width, 1, Some(cycle.next));
     let mut grants = [7u8; 2];
     let a = PackedScan(s).cycle(&cycle.requests, &mut grants);
-    compare::serves(a, cycle.count, next) && grants == cycle.grants
+    compare::grants(a, cycle.count, next, cycle.more) && grants == cycle.grants
 }
 
 // 4,096 sets of requests, 13 heads, 12 widths.

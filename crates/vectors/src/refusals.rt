@@ -354,7 +354,10 @@ fn add(f: Faulty) -> bool {
     let picks = f.value(Fault::Picks, 3, [0, 9, 1000]);
     let left = f.value(Fault::Code, 1, [2, 1, 15]);
     let right = f.value(Fault::Code, 1, [1, 2, 1]);
-    compare::sum(adder::add(picks, left, right), f.expected().map(|()| 0))
+    compare::sum(
+        adder::add(picks, left, right),
+        f.expected().map(|()| (0, false)),
+    )
 }
 
 // How many bytes go with a width: as many, or 4 where it is too large or none.

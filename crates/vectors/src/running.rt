@@ -1,16 +1,18 @@
 // The running codes of a cycle (02, N3), made by the adder's own call: from the code of nobody on, one sum for each station in the
 // order. Before each station the code is held to the model's count, past the last to the model's count of grants and the
-// thermometer arbiter's, which must grant those at whose sum the code changes.
+// thermometer arbiter's, which must grant those at whose sum the code changes. Exactly if a sum was cut off more are pending, by the
+// model and by the thermometer arbiter.
 use crate::{compare, engine, model, small};
 use arbiter::State;
-use thermometer::adder;
+use thermometer::adder::{self, Sum};
 
-// A cycle with 2 picks, and its codes, one more than the stations.
+// A cycle with 2 picks, its codes, one more than the stations, and whether a sum is cut off.
 #[derive(Clone, Copy)]
 pub struct Example {
     head: usize,
     requests: &'static [u8],
     codes: &'static [u8],
+    cut: bool,
 }
 
 // The examples of 001: figure 2a, in which its inputs 5, 4 and 2 ask, figure 2b with 6 and 2, and figure 3 with 3, 2 and 0. It goes
@@ -21,16 +23,19 @@ pub(crate) static EXAMPLES: [Example; 3] = [
         head: 0,
         requests: &[0, 0, 1, 1, 0, 1, 0, 0],
         codes: &[0, 0, 0, 1, 3, 3, 3, 3, 3],
+        cut: true,
     },
     Example {
         head: 4,
         requests: &[0, 1, 0, 0, 0, 1, 0, 0],
         codes: &[0, 0, 1, 1, 1, 1, 3, 3, 3],
+        cut: false,
     },
     Example {
         head: 0,
         requests: &[0, 1, 1, 0, 1],
         codes: &[0, 0, 1, 3, 3, 3],
+        cut: true,
     },
 ];
 
@@ -40,10 +45,17 @@ pub(crate) fn known(example: &Example) -> bool {
         head,
         requests,
         codes,
+        cut,
     } = *example;
     let s = compare::state(requests.len(), 2, Some(head));
-    codes == running(s, requests, &mut [0; 9]) && agrees(s, requests, codes)
+    running(s, requests, &mut [0; 9]) == (codes, cut) && agrees(s, requests, codes, cut)
 }
+
+// What stands for a sum that is refused: none of these sums is.
+const REFUSED: Sum = Sum {
+    code: 0,
+    cut: false,
+};
 
 // The numbers of the small inputs.
 pub(crate) const CASES: usize = small::INPUTS;
@@ -53,26 +65,29 @@ pub(crate) fn case(i: usize) -> Option<bool> {
     let (s, requests) = small::input(i)?;
     let requests = requests.get(..s.width)?;
     let mut bytes = [0; 9];
-    let codes = running(s, requests, &mut bytes);
-    Some(agrees(s, requests, codes))
+    let (codes, cut) = running(s, requests, &mut bytes);
+    Some(agrees(s, requests, codes, cut))
 }
 
-// Writes the running codes, by sums, behind the first of these bytes, and answers them all: before each station in the order, and
-// past the last.
-fn running<'a>(s: State, requests: &[u8], bytes: &'a mut [u8; 9]) -> &'a [u8] {
+// Writes the running codes, by sums, behind the first of these bytes, and answers them all, before each station in the order, and
+// past the last; and whether a sum was cut off.
+fn running<'a>(s: State, requests: &[u8], bytes: &'a mut [u8; 9]) -> (&'a [u8], bool) {
     let model = model::of(s, requests);
     let codes = &mut bytes[..=requests.len().min(8)];
     let mut code = 0;
+    let mut cut = false;
     for (position, next) in codes.iter_mut().skip(1).enumerate() {
         let request = requests.get(model.away(position)).copied().unwrap_or(0);
-        code = adder::add(s.picks, code, request).unwrap_or(0);
+        let sum = adder::add(s.picks, code, request).unwrap_or(REFUSED);
+        code = sum.code;
+        cut |= sum.cut;
         *next = code;
     }
-    codes
+    (codes, cut)
 }
 
-// Whether these are the running codes of a cycle, by the model and by the thermometer arbiter.
-fn agrees(s: State, requests: &[u8], codes: &[u8]) -> bool {
+// Whether these are the running codes of a cycle, and this says whether more are pending, by the model and by the thermometer arbiter.
+fn agrees(s: State, requests: &[u8], codes: &[u8], cut: bool) -> bool {
     let model = model::of(s, requests);
     let mut grants = [7u8; 8];
     let grants = &mut grants[..requests.len().min(8)];
@@ -80,6 +95,8 @@ fn agrees(s: State, requests: &[u8], codes: &[u8]) -> bool {
     let count = codes.last().map(|code| adder::count(*code));
     count == Some(model.count())
         && a.outcome == Ok(model.count())
+        && cut == model.more()
+        && a.more == cut
         && stations(&model, codes, grants)
 }
 

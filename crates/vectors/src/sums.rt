@@ -4,33 +4,36 @@ use crate::{compare, small};
 use reference::codes;
 use thermometer::adder;
 
+// A sum's code, and whether anything was cut off.
+type Summed = (u8, bool);
+
 // Two codes, and their sum with 2 picks or the number of the refusal. The codes are 0 for 00, 1 for 01 and 3 for 11; 2, which is 10,
 // is none.
-pub(crate) type Sum = (u8, u8, Result<u8, usize>);
+pub(crate) type Row = (u8, u8, Result<Summed, usize>);
 
 // 9 rows of 001's truth table of the adder saturated at 2, in its rows of legal codes, with each code that an X stands for.
-pub(crate) static TRUTH_TABLE: [Sum; 9] = [
-    (0, 0, Ok(0)),
-    (0, 1, Ok(1)),
-    (1, 0, Ok(1)),
-    (1, 1, Ok(3)),
-    (3, 0, Ok(3)),
-    (3, 1, Ok(3)),
-    (3, 3, Ok(3)),
-    (0, 3, Ok(3)),
-    (1, 3, Ok(3)),
+pub(crate) static TRUTH_TABLE: [Row; 9] = [
+    (0, 0, Ok((0, false))),
+    (0, 1, Ok((1, false))),
+    (1, 0, Ok((1, false))),
+    (1, 1, Ok((3, false))),
+    (3, 0, Ok((3, false))),
+    (3, 1, Ok((3, true))),
+    (3, 3, Ok((3, true))),
+    (0, 3, Ok((3, false))),
+    (1, 3, Ok((3, true))),
 ];
 
 // 01's 4 known sums with 2 picks, the last two refused.
-pub(crate) static KNOWN: [Sum; 4] = [
-    (1, 1, Ok(3)),
-    (3, 1, Ok(3)),
+pub(crate) static KNOWN: [Row; 4] = [
+    (1, 1, Ok((3, false))),
+    (3, 1, Ok((3, true))),
     (2, 1, Err(13)),
     (1, 2, Err(13)),
 ];
 
 // Whether a sum with 2 picks is as known, by the adder and by the model.
-pub(crate) fn known(row: &Sum) -> bool {
+pub(crate) fn known(row: &Row) -> bool {
     let (left, right, sum) = *row;
     compare::sum(adder::add(2, left, right), sum) && modelled(2, left, right) == sum
 }
@@ -60,7 +63,7 @@ pub(crate) fn code(i: usize) -> Option<bool> {
 }
 
 // The sum by the model, or the number of the refusal.
-fn modelled(picks: usize, left: u8, right: u8) -> Result<u8, usize> {
+fn modelled(picks: usize, left: u8, right: u8) -> Result<Summed, usize> {
     if picks < 1 || 8 < picks {
         return Err(3);
     }

@@ -1,6 +1,6 @@
 -- Laws of the answers: when a call is served, and what it then answers and writes.
 -- Assumes nothing.
-use Rattle.std.specs.Prelude.{ℕ, ◌≡◌, refl, List, Ok, Err}
+use Rattle.std.specs.Prelude.{ℕ, ◌≡◌, refl, false, List, Ok, Err}
 use Rattle.std.proofs.Common.{sym, ◌∙◌, arith}
 use Rattle.rules.specs.Head.{Head}
 use Rattle.arbiter.specs.declared.Answer.{Answer}
@@ -48,12 +48,12 @@ pub writes_is : (v : Verdict) (s : State) (answer : Answer) (target former : Lis
     → writes v s answer target former ≡ record { answer = answer; written = target }
 writes_is v s answer target former z = rw z
 
--- refused, it changes nothing: `answer` is what it would answer if it were served
+-- refused, it changes nothing, and no more are pending: `answer` is what it would answer if it were served
 pub writes_refused : (v : Verdict) (s : State) (answer : Answer) (target former : List ℕ) → number answer ≡ 0
     → let o = writes v s answer target former in
-    (number o.answer ≡ 0 → ⊥) → (o.answer.state ≡ s) × (o.written ≡ former)
+    (number o.answer ≡ 0 → ⊥) → (o.answer.state ≡ s) × (o.written ≡ former) × (o.answer.more ≡ false)
 writes_refused (Ok _) s answer target former z n = absurd (n z)
-writes_refused (Err refusal) s answer target former z n = (refl, refl)
+writes_refused (Err refusal) s answer target former z n = (refl, refl, refl)
 
 -- an opening whose questions are asked first
 pub opens_then : (v : Verdict) (n m : ℕ) (h : Head) → opens (v then Ok (made n m h)) ≡ opened v n m h

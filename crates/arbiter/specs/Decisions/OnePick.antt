@@ -3,10 +3,11 @@
 use Rattle.std.specs.Prelude.{ℕ, ◌-◌, ◌≤◌, ◌<◌, ◌≡◌, refl, Bool, List, [], ◌∷◌, ◌++◌, eqb, ltb, length}
 use Rattle.std.proofs.Common.{sym, ap, ◌∙◌, append-nil, arith, eq-eqb, ltb-true, ltb-false}
 use Rattle.rules.specs.Head.{Head}
-use Rattle.std.specs.Prelude.{None, Some}
+use Rattle.std.specs.Prelude.{Option, None, Some, is_some}
 use Rattle.rules.specs.Lists.{bit, range, filter, count}
 use Rattle.rules.specs.Lists.Laws as Lists
-use Rattle.rules.specs.RoundRobin.{start, order, granted}
+use Rattle.rules.specs.RoundRobin.{start, order, granted, grants}
+use Rattle.rules.proofs.Walk.Laws.{Walked}
 use Rattle.rules.proofs.RoundRobin.Laws as RoundRobin
 use Rattle.arbiter.specs.Places.{ones, first}
 use Rattle.arbiter.specs.Places.Laws.{first_none, first_some}
@@ -71,6 +72,21 @@ module _ (n : ℕ) (h : Head) (asks : ℕ → Bool) (station : start h < n) wher
 
   pub granted_below : (w : ℕ) → first (granted n 1 h asks) ≡ Some w → w < n
   granted_below w e = first_below w (sym first_granted ∙ e)
+
+  -- so it is a walk round that grants one or none
+  pub one_walked : (z : Option ℕ) {new : List ℕ} → z ≡ first (granted n 1 h asks) → new ≡ grants n 1 h asks
+      → Walked n 1 h asks (bit (is_some z)) z new
+  one_walked None e bytes =
+      let none : granted n 1 h asks ≡ [] = first_none _ (sym e) in
+      record { counted = sym (ap length none); bytes = bytes; nobody = λ _. refl; last = λ some. absurd (omega arith) }
+  one_walked (Some w) e bytes =
+      let only = only_granted w (sym e) in
+      record {
+        counted = sym (ap length only);
+        bytes = bytes;
+        nobody = λ none. absurd (omega arith);
+        last = λ _. (w, refl, granted_below w (sym e), RoundRobin.next_after n 1 h asks (w ∷ []) only ∙ RoundRobin.after_one n h w);
+      }
 
 -- the same by a buffer's bytes
 module _ (n : ℕ) (h : Head) (bytes : List ℕ) (station : start h < n) (long : length bytes ≡ n) where

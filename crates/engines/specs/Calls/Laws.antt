@@ -1,6 +1,6 @@
 -- Laws of the engines' cycles: a served one is by the round-robin rule, and a refused one changes nothing.
 -- Assumes nothing.
-use Rattle.std.specs.Prelude.{ℕ, ◌*◌, ◌<◌, ◌≡◌, List, length}
+use Rattle.std.specs.Prelude.{ℕ, ◌*◌, ◌<◌, ◌≡◌, false, List, length}
 use Rattle.std.proofs.Math.Path.{refl, ap}
 use Rattle.std.proofs.Common.{arith, eq-eqb}
 use Rattle.rules.specs.Head.{Head}
@@ -45,7 +45,8 @@ cycle_served s requests former z =
     }
 
 cycle_refused : (s : State) (requests former : List ℕ)
-    → let o = RoundRobin.cycle s requests former in (number o.answer ≡ 0 → ⊥) → (o.answer.state ≡ s) × (o.written ≡ former)
+    → let o = RoundRobin.cycle s requests former in
+    (number o.answer ≡ 0 → ⊥) → (o.answer.state ≡ s) × (o.written ≡ former) × (o.answer.more ≡ false)
 cycle_refused s requests former n =
     writes_refused (RoundRobin.questions s requests (length former)) s (RoundRobin.answer s requests) (RoundRobin.granting s requests) former refl n
 
@@ -78,12 +79,12 @@ module _ (s : State) (requests former nodes : List ℕ) where
       }
 
   tree_refused : let o = Tree.cycle s requests former nodes in
-      (number o.answer ≡ 0 → ⊥) → (o.answer.state ≡ s) × (o.grants ≡ former) × (o.nodes ≡ nodes)
+      (number o.answer ≡ 0 → ⊥) → (o.answer.state ≡ s) × (o.grants ≡ former) × (o.nodes ≡ nodes) × (o.answer.more ≡ false)
   unfolding Tree.cycle
   tree_refused n =
-      if_refused questions _ _ (λ (o : Outcome). (o.answer.state ≡ s) × (o.grants ≡ former) × (o.nodes ≡ nodes))
+      if_refused questions _ _ (λ (o : Outcome). (o.answer.state ≡ s) × (o.grants ≡ former) × (o.nodes ≡ nodes) × (o.answer.more ≡ false))
       (λ p. n (ap (λ (o : Outcome). number o.answer) (passed_is questions _ _ p)))
-      (λ e f. (refl, refl, refl))
+      (λ e f. (refl, refl, refl, refl))
 
 -- so every cycle is served by the rule
 pub engine_served : (e : Engine) (s : State) (requests former nodes : List ℕ)
@@ -93,14 +94,14 @@ engine_served Tree s requests former nodes z = tree_served s requests former nod
 engine_served Thermometer s requests former nodes z = cycle_served s requests former z
 engine_served KoggeStone s requests former nodes z = cycle_served s requests former z
 
--- or changes nothing
+-- or changes nothing, and no more are pending
 pub engine_refused : (e : Engine) (s : State) (requests former nodes : List ℕ)
     → let o = cycle e s requests former nodes in
-    (number o.answer ≡ 0 → ⊥) → (o.answer.state ≡ s) × (o.grants ≡ former) × (o.nodes ≡ nodes)
-engine_refused Scan s requests former nodes n = let u = cycle_refused s requests former n in (u.0, u.1, refl)
+    (number o.answer ≡ 0 → ⊥) → (o.answer.state ≡ s) × (o.grants ≡ former) × (o.nodes ≡ nodes) × (o.answer.more ≡ false)
+engine_refused Scan s requests former nodes n = let u = cycle_refused s requests former n in (u.0, u.1, refl, u.2)
 engine_refused Tree s requests former nodes n = tree_refused s requests former nodes n
-engine_refused Thermometer s requests former nodes n = let u = cycle_refused s requests former n in (u.0, u.1, refl)
-engine_refused KoggeStone s requests former nodes n = let u = cycle_refused s requests former n in (u.0, u.1, refl)
+engine_refused Thermometer s requests former nodes n = let u = cycle_refused s requests former n in (u.0, u.1, refl, u.2)
+engine_refused KoggeStone s requests former nodes n = let u = cycle_refused s requests former n in (u.0, u.1, refl, u.2)
 
 -- a state that an engine opens with any head, buffers of the right lengths and bytes that are bits: it serves the cycle
 module _ (s : State) (k : Head) (requests former nodes : List ℕ) (head : start s.head < s.width)

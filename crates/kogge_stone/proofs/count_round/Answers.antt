@@ -21,6 +21,12 @@ read_off-requires-clause-counts_value c =
     let n = length y.requests.now in
     let most : ones c.new-picks.result.code ≡ y.picks = omega (arith, c.new-picks.ensures, y.picked, y.picks_bound) in
     led _ _ (simp length-take (omega arith))
-    ∙ ap {B = List ℕ} (λ l. 0 ∷ l) (c.run.ensures ∙ rw most)
+    ∙ ap {B = List ℕ} (λ l. 0 ∷ l) (c.run-more.ensures.codes_after ∙ rw most)
     ∙ sym (Network.counts_shifted n y.picks y.head _)
     ∙ Network.counts_running n y.picks y.head _ (omega arith)
+
+pub read_off-requires-clause-more_value : goal.read_off-requires-clause-more_value
+read_off-requires-clause-more_value c =
+    let y = c.args.cycle.now in
+    let most : ones c.new-picks.result.code ≡ y.picks = omega (arith, c.new-picks.ensures, y.picked, y.picks_bound) in
+    c.run-more.ensures.value ∙ rw most

@@ -10,17 +10,17 @@ pub returns-then-count-eq0 : goal.returns-then-count-eq0
 returns-then-count-eq0 c =
     let y = c.args.cycle.now in
     let read =
-    Counts.idles y.picks _ y.head y.requests.now c.requires.picks_value c.args.picks.coded y.head_bound _ c.requires.counts_value
+    Counts.idles y.picks _ y.head y.requests.now y.picked c.requires.picks_value c.args.picks.coded y.head_bound _ c.requires.counts_value
     _ c.first_station-first.ensures _ c.grant_round.ensures _ c.count-count.ensures c.if-count-eq0.true in
     record { value = c.idle.ensures ∙ read.0; same_reference = refl; grants_after = read.1 }
 
 pub returns : goal.returns
 returns c =
     let y = c.args.cycle.now in
-    let some = Counts.placed_some y.picks _ y.head y.requests.now c.requires.picks_value c.args.picks.coded y.head_bound _ c.requires.counts_value
+    let some = Counts.placed_some y.picks _ y.head y.requests.now y.picked c.requires.picks_value c.args.picks.coded y.head_bound _ c.requires.counts_value
     _ c.first_station-first.ensures _ c.grant_round.ensures _ c.count-count.ensures _ c.first_place-position.ensures in
     let last : c.map.result ≡ Some (station (length y.requests.now) c.first_station-first.result (length (before (get_or c.args.counts.now (length y.requests.now) 0) (drop 1 c.args.counts.now)))) = search rules in
     let read =
-    Counts.decides y.picks _ y.head y.requests.now c.requires.picks_value c.args.picks.coded y.head_bound _ c.requires.counts_value
-    _ c.first_station-first.ensures _ c.grant_round.ensures _ c.count-count.ensures c.if-count-eq0.false _ (rw c.requires.counts_value) in
+    Counts.decides y.picks _ y.head y.requests.now y.picked c.requires.picks_value c.args.picks.coded y.head_bound _ c.requires.counts_value
+    _ c.first_station-first.ensures _ c.grant_round.ensures _ c.count-count.ensures c.if-count-eq0.false _ (rw c.requires.counts_value) c.args.more c.requires.more_value in
     record { value = c.decide.ensures ∙ rw last read.0; same_reference = refl; grants_after = read.1 }

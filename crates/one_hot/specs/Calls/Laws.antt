@@ -1,6 +1,6 @@
 -- Laws of the one-hot image, and of question 10.
 -- Assumes nothing.
-use Rattle.std.specs.Prelude.{ℕ, suc, ◌+◌, ◌-◌, ◌≤◌, ◌<◌, ◌≡◌, refl, Bool, true, false, List, [], ◌∷◌, eqb, ltb, length, get_or, drop, replicate}
+use Rattle.std.specs.Prelude.{ℕ, suc, ◌+◌, ◌-◌, ◌<◌, ◌≡◌, refl, Bool, true, false, List, [], ◌∷◌, eqb, ltb, length, get_or, drop, replicate}
 use Rattle.std.proofs.Common.{sym, ap, ◌∙◌, arith, add-one, length-set, get_or-set_same, get_or-set_other, ext_get_or, eqb-true, ltb-false, eq-eqb, ne_eqb}
 use Rattle.std.proofs.Math.Bool.{or-false}
 use Rattle.std.proofs.lemmas.List.{length-replicate, get_or-replicate}
@@ -103,12 +103,6 @@ here_first [] i e = refl
 here_first (p ∷ []) i e = sym (or-false (eqb i p))
 here_first (p ∷ q ∷ ps) i e = let z : ◌≡◌ {A = ℕ} 0 1 = cc in absurd (omega arith)
 
-bit_byte : (x : ℕ) → ltb 1 x ≡ false → bit (eqb x 1) ≡ x
-bit_byte x f =
-    Lists.split (eqb x 1)
-    (λ e. rw e (sym (eqb-true x 1 e)))
-    (λ e. let low : x ≤ 1 = ltb-false 1 x f in rw e (omega (arith, eqb-false x 1 e)))
-
 -- bytes that are 0 or 1, with at most one 1, are the image of the head that they show
 pub image_of : (bytes : List ℕ) → places (ltb 1) 0 bytes ≡ [] → drop 1 (ones 0 bytes) ≡ []
     → image (length bytes) (head_of bytes) ≡ bytes
@@ -124,7 +118,7 @@ image_of bytes bits single =
     Lists.member_filter (λ k. eqb (get_or bytes k 0) 1) i (range 0 (n - 0)) ∙ rw (Lists.member_range i 0 (n - 0) (omega arith) whole) in
     image_at n h i u
     ∙ ap bit (here_first (ones 0 bytes) i single ∙ one)
-    ∙ bit_byte (get_or bytes i 0) (free.at i (omega arith) u))
+    ∙ Lists.bit_byte (get_or bytes i 0) (ltb-false 1 (get_or bytes i 0) (free.at i (omega arith) u)))
 
 -- an image with no 1
 pub one_hot_none : (image : List ℕ) → first (ones 0 image) ≡ None → one_hot image ≡ passed
@@ -150,6 +144,6 @@ pub read_answered : (s : State) (bytes : List ℕ)
     → answered s (questions s.width s.picks s.head bytes then Ok (headed (head_of bytes))) ≡ read s bytes
 read_answered s bytes = by (questions s.width s.picks s.head bytes)
   where
-    by : (v : Verdict) → answered s (v then Ok (headed (head_of bytes))) ≡ if_passed v (served 0 (moved s (head_of bytes))) (λ refusal. refused refusal s)
+    by : (v : Verdict) → answered s (v then Ok (headed (head_of bytes))) ≡ if_passed v (served (moved s (head_of bytes))) (λ refusal. refused refusal s)
     by (Ok _) = refl
     by (Err refusal) = refl

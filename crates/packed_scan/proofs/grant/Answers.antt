@@ -3,7 +3,7 @@
 use Rattle.std.proofs.Common.{ℕ, sym, ap, ◌∙◌, ◌++◌, arith}
 use Rattle.arbiter.specs.Places.{first, set_lines}
 use Rattle.arbiter.specs.Places.Laws.{zeros_fit}
-use Rattle.packed_scan.specs.Lines.Laws.{one_below}
+use Rattle.packed_scan.specs.Lines.Laws.{one_below, one_decides}
 use Rattle.packed_scan.proofs.grant.Goals as goal
 
 pub bounds-grants-station : goal.bounds-grants-station
@@ -12,3 +12,10 @@ bounds-grants-station c =
     let r = c.requires in
     let some = ap (λ (from : ℕ). first (set_lines from a.requests.now ++ set_lines 0 a.requests.now)) (sym c.first_station-first.ensures) ∙ sym c.first_request.ensures ∙ c.in-Some.is in
     let below = one_below a.width a.requests.now r.packed a.head r.head_bound _ some in zeros_fit r.grants_value (omega arith)
+
+pub returns-clause-value : goal.returns-clause-value
+returns-clause-value c =
+    let a = c.args in
+    let r = c.requires in
+    let some = ap (λ (from : ℕ). first (set_lines from a.requests.now ++ set_lines 0 a.requests.now)) (sym c.first_station-first.ensures) ∙ sym c.first_request.ensures ∙ c.in-Some.is in
+    c.decide.ensures ∙ one_decides a.width a.requests.now r.packed a.head r.head_bound _ some (λ k. omega (arith, c.type_inv.requests k)) _ (c.ne-more.ensures ∙ rw (r.grants_value, c.single.ensures))

@@ -1,21 +1,27 @@
 -- Laws of the set lines of packed bytes: how a search by the table finds the first, and that it is whom the rule grants.
 -- Assumes nothing.
-use Rattle.std.specs.Prelude.{Option, IfSome, ℕ, ◌+◌, ◌-◌, ◌*◌, ◌/◌, ◌%◌, ◌^◌, ◌≤◌, ◌<◌, ◌≡◌, refl, Bool, true, ◌⊎◌, List, [], ◌∷◌, ◌++◌, map, eqb, ltb, length, get_or, take, set, replicate}
+use Rattle.std.specs.Prelude.{Option, IfSome, ℕ, ◌+◌, ◌-◌, ◌*◌, ◌/◌, ◌%◌, ◌^◌, ◌≤◌, ◌<◌, ◌≡◌, refl, Bool, true, false, not, nat_eq, ◌⊎◌, List, [], ◌∷◌, ◌++◌, map, eqb, ltb, length, get_or, take, set, replicate}
 use Rattle.std.proofs.lemmas.List.{get_or-map}
+use Rattle.std.proofs.lemmas.Bool.{eqb-false}
+use Rattle.std.proofs.Math.ListN.{get_or-eq_default}
 use Rattle.std.proofs.Common.{sym, ap, ap₂, ◌∙◌, inl, inr, ⊎_elim, arith, zero-add, length-take-le, get_or-take, eq-eqb, ltb-true, ltb-false}
 use borrow.Author.Tests.{lt-ltb}
 use Rattle.rules.specs.Head.{Head}
 use Rattle.std.specs.Prelude.{None, Some}
 use Rattle.rules.specs.Lists.{range, marks}
 use Rattle.rules.specs.Lists.Laws as Lists
-use Rattle.rules.specs.Packing.{line, unpack, packed_length, pack, first_line, entries}
+use Rattle.std.specs.Cmp.Lexicographic.{same_text, other_text}
+use lib.Pointwise.{pointwise}
+use Rattle.rules.specs.Pending.{more}
+use Rattle.rules.proofs.Pending.Laws as Pending
+use Rattle.rules.specs.Packing.{line, wire, unpack, packed_length, pack, first_line, entries}
 use Rattle.rules.proofs.Packing.Laws as Packing
 use Rattle.rules.specs.RoundRobin.{start, granted, grants}
 use Rattle.rules.proofs.RoundRobin.Laws as RoundRobin
 use Rattle.arbiter.specs.Places.{ones, nonzero, set_lines, first, highest}
 use Rattle.arbiter.specs.Places.Laws.{first_none, Free, free_none, free_on, free_of, places_none, places_first, Found, found, is_zero, highest_most}
 use Rattle.arbiter.specs.Decisions.{requested, decision, deciding, counted}
-use Rattle.arbiter.specs.Decisions.Laws.{counted_one, decided_granted}
+use Rattle.arbiter.specs.Decisions.Laws.{counted_one, decided_granted, decided_none}
 use Rattle.arbiter.specs.Decisions.OnePick as OnePick
 use Rattle.packed_scan.specs.Lines.{Packed, listed, through, in_byte}
 
@@ -338,6 +344,10 @@ round_other packed from k within none e small =
     let below : line < 8 = some_entry (get_or packed k 0) line next.some small refl in
     in_first packed k below ∙ round_next packed from (first_line (get_or packed (from / 8) 0) (from % 8)) k line within refl (in_none packed from none) next refl below
 
+-- lists that are the same are told to be
+same_told : (xs ys : List ℕ) → xs ≡ ys → pointwise nat_eq xs ys ≡ true
+same_told xs ys e = Lists.split (pointwise nat_eq xs ys) (λ t. t) (λ f. absurd (other_text xs ys (sym f) e))
+
 -- the packed wires of n stations
 module _ (n : ℕ) (packed : List ℕ) (p : Packed n packed) where
   -- no line past the last station is set
@@ -355,6 +365,36 @@ module _ (n : ℕ) (packed : List ℕ) (p : Packed n packed) where
       (omega (arith, all, p.long))
       (λ i _ u. ap is_set (Packing.unpack_at (8 * length packed) packed i (omega (arith, p.long)) ∙ sym (Packing.unpack_at n packed i u)))
       past_free.at)
+
+  -- and the bytes are the packed form of them
+  unused_zero : (i : ℕ) → n ≤ i → wire packed i ≡ 0
+  unused_zero i l =
+      Lists.split (ltb i (8 * length packed))
+      (λ t.
+      let u = ltb-true i (8 * length packed) t in
+      let at = Packing.unpack_at (8 * length packed) packed i u in
+      omega (arith, eqb-false _ 1 (sym (ap is_set at) ∙ past_free.at i l (omega (arith, lines_length packed)))))
+      (λ f.
+      rw (get_or-eq_default packed 0 {n = i / 8} (omega (arith, ltb-false i (8 * length packed) f))) (Packing.line_zero (i % 8)))
+
+  as_packed : ((k : ℕ) → get_or packed k 0 < 256) → pack (unpack n packed) ≡ packed
+  as_packed small = Packing.pack_unpack n packed p.long small unused_zero
+
+  -- so packed grants are the requests exactly if the wires are the unpacked ones
+  packed_more : (h : Head) → start h < n → ((k : ℕ) → get_or packed k 0 < 256) → (b : Bool)
+      → b ≡ not (pointwise nat_eq packed (pack (grants n 1 h (requested (unpack n packed)))))
+      → b ≡ more n (requested (unpack n packed)) (granted n 1 h (requested (unpack n packed)))
+  packed_more h station small b e =
+      let wires = unpack n packed in
+      let out = grants n 1 h (requested wires) in
+      let long : length wires ≡ n = Packing.unpack_length n packed in
+      let back : unpack n (pack out) ≡ out =
+      rw (RoundRobin.grants_length n 1 h (requested wires)) at (Packing.unpack_pack out (RoundRobin.grants_bit n 1 h (requested wires))) in
+      let same : pointwise nat_eq packed (pack out) ≡ pointwise nat_eq wires out =
+      Lists.both_ways _ _
+      (λ t. same_told wires out (ap (unpack n) (same_text packed (pack out) (sym t)) ∙ back))
+      (λ t. same_told packed (pack out) (sym (as_packed small) ∙ ap pack (same_text wires out (sym t)))) in
+      Pending.more_bytes n 1 h wires long (omega (arith, station)) (λ w _. Packing.unpack_bit n packed w) b (e ∙ ap not same)
 
   -- and the first once round is whom the rule grants
   module _ (h : Head) (station : start h < n) where
@@ -377,8 +417,8 @@ module _ (n : ℕ) (packed : List ℕ) (p : Packed n packed) where
       nobody : granted n 1 h (requested wires) ≡ []
       nobody = first_none _ (sym round_granted ∙ e)
 
-      pub none_decides : deciding n h [] ≡ decision n 1 h (requested (unpack n packed))
-      none_decides = decided_granted n 1 h (requested wires) [] nobody
+      pub none_decides : deciding n h [] false ≡ decision n 1 h (requested (unpack n packed))
+      none_decides = decided_none n 1 h (requested wires) (omega arith) (omega (arith, station)) nobody
 
       pub none_grants : replicate (packed_length n) 0 ≡ pack (grants n 1 h (requested (unpack n packed)))
       none_grants = sym (ap pack (RoundRobin.grants_marks n 1 h (requested wires) ∙ ap (marks n) nobody) ∙ Packing.pack_none n)
@@ -391,8 +431,15 @@ module _ (n : ℕ) (packed : List ℕ) (p : Packed n packed) where
       pub one_below : w < n
       one_below = OnePick.granted_below n h (requested wires) station w (sym round_granted ∙ e)
 
-      pub one_decides : counted n h 1 (Some w) ≡ decision n 1 h (requested (unpack n packed))
-      one_decides = counted_one n w h one_below ∙ decided_granted n 1 h (requested wires) (w ∷ []) only
-
       pub one_grants : set (replicate (packed_length n) 0) (w / 8) (2 ^ (w % 8)) ≡ pack (grants n 1 h (requested (unpack n packed)))
       one_grants = sym (ap pack (RoundRobin.grants_marks n 1 h (requested wires) ∙ ap (marks n) only) ∙ Packing.pack_one n w one_below)
+
+      -- more are pending exactly if these grants are not the requests
+      pub one_decides : ((k : ℕ) → get_or packed k 0 < 256) → (b : Bool)
+          → b ≡ not (pointwise nat_eq packed (set (replicate (packed_length n) 0) (w / 8) (2 ^ (w % 8))))
+          → counted n h 1 (Some w) b ≡ decision n 1 h (requested (unpack n packed))
+      one_decides small b e =
+          let told = packed_more h station small b (e ∙ rw one_grants) in
+          counted_one n w h b one_below
+          ∙ ap (deciding n h (w ∷ [])) (told ∙ ap (more n (requested wires)) only)
+          ∙ decided_granted n 1 h (requested wires) (w ∷ []) only

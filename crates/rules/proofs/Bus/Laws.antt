@@ -1,11 +1,14 @@
 -- Laws of the token bus's rule.
 -- Assumes nothing.
-use Rattle.std.specs.Prelude.{ℕ, ◌+◌, ◌%◌, ◌≤◌, ◌<◌, ◌≡◌, refl, Bool, true, false, List, [], ◌∷◌, eqb, length, get_or}
+use Rattle.std.specs.Prelude.{ℕ, ◌+◌, ◌%◌, ◌≤◌, ◌<◌, ◌≡◌, refl, Bool, true, false, ◌&&◌, List, [], ◌∷◌, eqb, length, get_or}
 use Rattle.std.proofs.Common.{arith, mod-lt}
 use Rattle.std.specs.Prelude.{Some}
-use Rattle.rules.specs.Lists.{bit, count, member, marks, before}
+use Rattle.std.specs.List.{list_any}
+use Rattle.rules.specs.Lists.{bit, range, count, member, marks, before}
 use Rattle.rules.specs.RoundRobin.{start, order}
 use Rattle.rules.proofs.RoundRobin.Laws as RoundRobin
+use Rattle.rules.specs.Pending.{more}
+use Rattle.rules.proofs.Pending.Laws as Pending
 use Rattle.rules.specs.Bus.{granted, grants, after, next}
 
 -- the token is a head of the order
@@ -39,6 +42,12 @@ pub grants_count : (n t : ℕ) (asks : ℕ → Bool) → t < n → count (λ b. 
 unfolding granted grants
 grants_count n t asks token =
     let head = token_head n t token in RoundRobin.grants_count n 1 (Some t) asks (omega arith)
+
+-- more are pending if somebody asks and has a 0 in it
+pub more_told : (n t : ℕ) (asks : ℕ → Bool) → t < n → more n asks (granted n t asks) ≡ list_any (λ w. asks w && eqb (get_or (grants n t asks) w 0) 0) (range 0 n)
+unfolding granted grants
+more_told n t asks token =
+    let head = token_head n t token in Pending.more_told n 1 (Some t) asks (omega (arith, head))
 
 -- the station at the token is granted if it asks
 pub grants_token : (n t : ℕ) (asks : ℕ → Bool) → t < n → asks t ≡ true → get_or (grants n t asks) t 0 ≡ 1

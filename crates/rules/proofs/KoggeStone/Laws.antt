@@ -1,21 +1,24 @@
 -- Laws of the network: it counts what the serial counts say, since the adder may be regrouped.
 -- Assumes nothing.
 use Prim.Native.Nat.{ℕ, zero, suc, ◌+◌, ◌-◌, ◌*◌, ◌^◌, ◌≤◌, ◌<◌}
-use Rattle.std.specs.Prelude.{◌≡◌, refl, Bool, true, ltb}
+use Rattle.std.specs.Prelude.{◌≡◌, refl, Bool, true, false, ◌||◌, min, ltb, take}
+use Rattle.std.specs.Int.Count.{ones}
 use Rattle.std.proofs.Math.Path.{sym, ap}
-use Rattle.std.proofs.Common.{ap₂, ◌∙◌, arith, add-zero, add-suc, zero-add, pow-suc, pow_pos, ltb-true, ltb-false, lt-ltb, le-ltb}
+use Rattle.std.proofs.Math.Bool.{or_assoc, or-false}
+use Rattle.std.proofs.Common.{ap₂, ◌∙◌, arith, add-zero, add-suc, zero-add, pow-suc, pow_pos, ltb-true, ltb-false, lt-ltb, le-ltb, take-take, take-suc, take_all}
 use mathlib.Core.List.{List, [], ◌∷◌, map}
-use Rattle.std.proofs.Math.ListN.{length, get_or}
+use Rattle.std.proofs.Math.ListN.{length, get_or, length-map}
 use Rattle.std.proofs.Math.Seq.{ext_get_or}
 use Rattle.rules.specs.Head.{Head}
-use Rattle.rules.specs.Lists.{range, filter}
+use Rattle.rules.specs.Lists.{bit, range, filter, count}
 use Rattle.rules.specs.Lists.Laws as Lists
-use Rattle.rules.specs.RoundRobin.{start}
-use Rattle.rules.specs.Thermometer.{code, is_code, add, saturated, inputs, running, running_codes}
-use Rattle.rules.proofs.Thermometer.Laws.{add_none, add_regroup}
-use Rattle.rules.proofs.Thermometer.Running.{running_first, running_next, inputs_codes, inputs_length, codes_inputs, codes_length, code_before}
-use Rattle.rules.specs.KoggeStone.{distances, joined, levels, network, counts, count_before}
-pub use Rattle.rules.specs.KoggeStone.Laws.{joined_length, joined_near, joined_far, distances_powers, levels_none, levels_next, network_joins, counts_shifted, count_position}
+use Rattle.rules.specs.RoundRobin.{start, order}
+use Rattle.rules.proofs.RoundRobin.Laws as RoundRobin
+use Rattle.rules.specs.Thermometer.{code, is_code, add, cuts, saturated, input, inputs, running, running_codes}
+use Rattle.rules.proofs.Thermometer.Laws.{ones_code, ones_add, add_none, add_regroup}
+use Rattle.rules.proofs.Thermometer.Running.{running_first, running_next, inputs_codes, inputs_length, inputs_order, codes_inputs, codes_length, code_before}
+use Rattle.rules.specs.KoggeStone.{distances, joined, levels, network, joined_cuts, levels_cut, network_cuts, counts, count_before}
+pub use Rattle.rules.specs.KoggeStone.Laws.{joined_length, joined_near, joined_far, distances_powers, levels_none, levels_next, network_joins, joined_cuts_any, levels_cut_none, levels_cut_next, network_cuts_levels, counts_shifted, count_position}
 
 -- a power of two is larger than its exponent
 pow_more : (k : ℕ) → k < 2 ^ k
@@ -36,26 +39,39 @@ from_none : (n k c : ℕ) → n ≤ 2 ^ k → filter (λ d. ltb d n) (map (λ j.
 from_none n k zero l = refl
 from_none n k (suc c) l = rw (le-ltb (2 ^ k) n l) (from_none n (suc k) c (omega (arith, pow-suc 2 k)))
 
--- the network half way: these codes, joined at distance d, at twice that and so on, give `out`
-pub record Left (m n d : ℕ) (codes out : List ℕ) : Type 0 where
+-- the network half way: these codes, joined at distance d, at twice that and so on, give `out`; and if something has been cut off, or is
+-- at one of these distances, `all` says so
+pub record Left (m n d : ℕ) (codes out : List ℕ) (cut all : Bool) : Type 0 where
   power : ℕ
   is : d ≡ 2 ^ power
   rest : levels m (from n power) codes ≡ out
+  more : (cut || levels_cut m (from n power) codes) ≡ all
 
-pub begin : (m n d : ℕ) (codes : List ℕ) → d ≡ 1 → Left m n d codes (levels m (distances n) codes)
-begin m n d codes e = record { power = 0; is = e; rest = rw (from_first n) }
+pub begin : (m n d : ℕ) (codes : List ℕ) → d ≡ 1 → Left m n d codes (levels m (distances n) codes) false (levels_cut m (distances n) codes)
+begin m n d codes e = record { power = 0; is = e; rest = rw (from_first n); more = rw (from_first n) }
 
-pub step : (m n d : ℕ) (codes out : List ℕ) → d < n → Left m n d codes out → Left m n (d * 2) (joined m d codes) out
-step m n d codes out l r =
+pub step : (m n d : ℕ) (codes out : List ℕ) (cut all : Bool) → d < n → Left m n d codes out cut all
+    → Left m n (d * 2) (joined m d codes) out (cut || joined_cuts m d codes) all
+step m n d codes out cut all l r =
     let k = r.power in
-    let next : levels m (from n k) codes ≡ levels m (from n (suc k)) (joined m (2 ^ k) codes) =
-    ap (λ (ds : List ℕ). levels m ds codes) (from_next n k (omega (arith, r.is))) ∙ levels_next m (2 ^ k) (from n (suc k)) codes in
-    record { power = suc k; is = omega (arith, r.is, pow-suc 2 k); rest = rw r.is (sym next ∙ r.rest) }
+    let next = from_next n k (omega (arith, r.is)) in
+    record {
+      power = suc k;
+      is = omega (arith, r.is, pow-suc 2 k);
+      rest = rw r.is (sym (ap (λ (ds : List ℕ). levels m ds codes) next ∙ levels_next m (2 ^ k) (from n (suc k)) codes) ∙ r.rest);
+      more =
+          rw r.is
+          (or_assoc cut (joined_cuts m (2 ^ k) codes) _
+          ∙ ap (λ b. cut || b) (sym (ap (λ (ds : List ℕ). levels_cut m ds codes) next ∙ levels_cut_next m (2 ^ k) (from n (suc k)) codes))
+          ∙ r.more);
+    }
 
-pub done : (m n d : ℕ) (codes out : List ℕ) → n ≤ d → Left m n d codes out → codes ≡ out
-done m n d codes out l r =
-    sym (levels_none m codes)
-    ∙ ap (λ (ds : List ℕ). levels m ds codes) (sym (from_none n r.power (n - r.power) (omega (arith, r.is)))) ∙ r.rest
+pub done : (m n d : ℕ) (codes out : List ℕ) (cut all : Bool) → n ≤ d → Left m n d codes out cut all → (codes ≡ out) × (cut ≡ all)
+done m n d codes out cut all l r =
+    let none = from_none n r.power (n - r.power) (omega (arith, r.is)) in (
+      sym (levels_none m codes) ∙ ap (λ (ds : List ℕ). levels m ds codes) (sym none) ∙ r.rest,
+      sym (or-false cut) ∙ ap (λ b. cut || b) (sym (levels_cut_none m codes)) ∙ ap (λ (ds : List ℕ). cut || levels_cut m ds codes) (sym none) ∙ r.more,
+    )
 
 -- codes added up one after the other: k more than the one at position a
 sum : ℕ → List ℕ → ℕ → ℕ → ℕ
@@ -149,6 +165,9 @@ module _ (n m : ℕ) (h : Head) (asks : ℕ → Bool) (station : start h ≤ n) 
   pub network_levels : levels m (distances (length (inputs n m h asks))) (inputs n m h asks) ≡ network n m h asks
   network_levels = rw (inputs_length n m h asks station) (sym (network_joins n m h asks))
 
+  pub network_cut : levels_cut m (distances (length (inputs n m h asks))) (inputs n m h asks) ≡ network_cuts n m h asks
+  network_cut = rw (inputs_length n m h asks station) (sym (network_cuts_levels n m h asks))
+
   pub network_length : length (network n m h asks) ≡ n
   network_length = ap length (network_joins n m h asks) ∙ levels_length m (distances n) (inputs n m h asks) ∙ inputs_length n m h asks station
 
@@ -174,3 +193,144 @@ module _ (n m : ℕ) (h : Head) (asks : ℕ → Bool) (station : start h ≤ n) 
   -- N1's "It must equal the serial counts at each station for any N and m"
   pub count_serial : (w : ℕ) → w < n → count_before n m h asks w ≡ code (saturated n m h asks w)
   count_serial w l = rw (count_position n m h asks w, counts_running) (code_before n m h asks station w l)
+
+-- What the network cuts off. m is the pick count, `asks w` says that station w asks, and ws are the stations in their order
+module _ (m : ℕ) (asks : ℕ → Bool) (ws : List ℕ) (some : 1 ≤ m) where
+  -- how many of the first p ask
+  abbrev upto : ℕ → ℕ
+  upto p = count asks (take p ws)
+
+  upto_more : (p q : ℕ) → p ≤ q → upto p ≤ upto q
+  upto_more p q l = omega (arith, Lists.count_take_le asks p (take q ws), ap (count asks) (take-take p q ws l))
+
+  upto_next : (p : ℕ) → p < length ws → upto (suc p) ≡ upto p + bit (asks (get_or ws p 0))
+  upto_next p l = ap (count asks) (take-suc ws p 0 l) ∙ Lists.count_append asks (take p ws) (get_or ws p 0 ∷ []) ∙ omega arith
+
+  -- how many of the d positions up to p ask, or of all of them where they are fewer
+  abbrev window : ℕ → ℕ → ℕ
+  window d p = upto (suc p) - upto (suc p - d)
+
+  -- the network before distance d: each code counts its window, m at the most
+  record Counted (d : ℕ) (codes : List ℕ) : Type 0 where
+    long : length codes ≡ length ws
+    each : (p : ℕ) → p < length ws → ones (get_or codes p 0) ≡ min m (window d p)
+
+  join_counted : (d : ℕ) (codes : List ℕ) → 1 ≤ d → Counted d codes → Counted (d * 2) (joined m d codes)
+  join_counted d codes one c =
+      record {
+        long = joined_length m d codes ∙ c.long;
+        each =
+            λ p l.
+            Lists.split (ltb p d)
+            (λ t.
+            let u = ltb-true p d t in
+            let all : suc p - d ≡ 0 = omega arith in
+            let still : suc p - d * 2 ≡ 0 = omega arith in
+            ap ones (joined_near m d codes p (omega (arith, c.long)) u) ∙ c.each p l ∙ rw (all, still))
+            (λ f.
+            let u = ltb-false p d f in
+            let here : suc (p - d) ≡ suc p - d = omega arith in
+            let far : suc p - d - d ≡ suc p - d * 2 = omega arith in
+            let left = rw (here, far) at (c.each (p - d) (omega arith)) in
+            ap ones (joined_far m d codes p (omega (arith, c.long)) u)
+            ∙ ones_add m _ _
+            ∙ omega (arith, left, c.each p l, upto_more (suc p - d * 2) (suc p - d) (omega arith), upto_more (suc p - d) (suc p) (omega arith)));
+      }
+
+  -- a joining that cuts something off joins windows in which more than m ask
+  cut_more : (d : ℕ) (codes : List ℕ) → Counted d codes → joined_cuts m d codes ≡ true → m < count asks ws
+  unfolding cuts
+  cut_more d codes c e =
+      let r = Lists.any_found _ d (length codes - d) (sym (joined_cuts_any m d codes) ∙ e) in
+      let p = r.0 in
+      let fits : p < length ws = omega (arith, c.long, r.1, r.2) in
+      let here : suc (p - d) ≡ suc p - d = omega (arith, r.1) in
+      let left = rw here at (c.each (p - d) (omega arith)) in
+      omega (
+        arith,
+        ltb-true _ _ r.3,
+        left,
+        c.each p fits,
+        upto_more (suc p - d - d) (suc p - d) (omega arith),
+        upto_more (suc p - d) (suc p) (omega arith),
+        Lists.count_take_le asks (suc p) ws,
+      )
+
+  -- and after one that does not, if the windows were no more than m, the next are not
+  abbrev Few : ℕ → Type 0
+  Few d = (p : ℕ) → p < length ws → window d p ≤ m
+
+  uncut_few : (d : ℕ) (codes : List ℕ) → Counted d codes → joined_cuts m d codes ≡ false → Few d → Few (d * 2)
+  unfolding cuts
+  uncut_few d codes c e few p l =
+      Lists.split (ltb p d)
+      (λ t.
+      let u = ltb-true p d t in
+      let all : suc p - d ≡ 0 = omega arith in
+      let still : suc p - d * 2 ≡ 0 = omega arith in
+      rw still (rw all at (few p l)))
+      (λ f.
+      let u = ltb-false p d f in
+      let here : suc (p - d) ≡ suc p - d = omega arith in
+      let far : suc p - d - d ≡ suc p - d * 2 = omega arith in
+      let left = rw (here, far) at (c.each (p - d) (omega arith)) in
+      let low = rw (here, far) at (few (p - d) (omega arith)) in
+      let whole = Lists.any_not _ d (length codes - d) (sym (joined_cuts_any m d codes) ∙ e) p u (omega (arith, c.long)) in
+      omega (arith, ltb-false _ _ whole, left, low, c.each p l, few p l))
+
+  -- where no distance is left the last window is all
+  all_joined : (k : ℕ) (codes : List ℕ) → length ws ≤ 2 ^ k → Few (2 ^ k) → levels_cut m (from (length ws) k) codes ≡ ltb m (count asks ws)
+  all_joined k codes over few =
+      let n = length ws in
+      let all = ap (count asks) (take_all n ws (omega arith)) in
+      rw (from_none n k (n - k) over, levels_cut_none m codes)
+      (sym (le-ltb m (count asks ws)
+      (Lists.split (ltb 0 n)
+      (λ t.
+      let l = ltb-true 0 n t in
+      let last : suc (n - 1) ≡ n = omega arith in
+      let none : n - 2 ^ k ≡ 0 = omega arith in
+      omega (arith, all, rw (last, none) at (few (n - 1) (omega arith))))
+      (λ f. let none : n ≡ 0 = omega (arith, ltb-false 0 n f) in omega (arith, all, ap upto none)))))
+
+  -- so something is cut off at one of the distances exactly if more than m ask
+  levels_more : (c k : ℕ) (codes : List ℕ) → length ws ≤ k + c → Counted (2 ^ k) codes → Few (2 ^ k)
+      → levels_cut m (from (length ws) k) codes ≡ ltb m (count asks ws)
+  levels_more zero k codes l w few = all_joined k codes (omega (arith, pow_more k)) few
+  levels_more (suc c) k codes l w few =
+      Lists.split (ltb (2 ^ k) (length ws))
+      (λ t.
+      rw (from_next (length ws) k (ltb-true (2 ^ k) (length ws) t), levels_cut_next m (2 ^ k) (from (length ws) (suc k)) codes)
+      (Lists.split (joined_cuts m (2 ^ k) codes)
+      (λ q. rw q (sym (lt-ltb m (count asks ws) (cut_more (2 ^ k) codes w q))))
+      (λ q.
+      rw q
+      (levels_more c (suc k) (joined m (2 ^ k) codes) (omega arith)
+      (rw (← pow-suc 2 k) at (join_counted (2 ^ k) codes (pow_pos k) w))
+      (rw (← pow-suc 2 k) at (uncut_few (2 ^ k) codes w q few))))))
+      (λ f. all_joined k codes (ltb-false (2 ^ k) (length ws) f) few)
+
+  -- the requests as codes count one position each
+  begin_counted : Counted (2 ^ 0) (map (input m asks) ws)
+  begin_counted =
+      record {
+        long = length-map ws (input m asks);
+        each =
+            λ p l.
+            let here : suc p - 2 ^ 0 ≡ p = omega arith in
+            ap ones (Lists.get_d_mapped (input m asks) ws p l) ∙ ones_code _ ∙ rw here (omega (arith, upto_next p l));
+      }
+
+  begin_few : Few (2 ^ 0)
+  begin_few p l =
+      let here : suc p - 2 ^ 0 ≡ p = omega arith in
+      rw here (omega (arith, upto_next p l, Lists.bit_le (asks (get_or ws p 0))))
+
+  cut_exactly : levels_cut m (distances (length ws)) (map (input m asks) ws) ≡ ltb m (count asks ws)
+  cut_exactly = rw (from_first (length ws)) (levels_more (length ws) 0 (map (input m asks) ws) (omega arith) begin_counted begin_few)
+
+-- the network cuts something off exactly if more than m ask: 02, N5
+pub network_more : (n m : ℕ) (h : Head) (asks : ℕ → Bool) → start h ≤ n → 1 ≤ m → network_cuts n m h asks ≡ ltb m (count asks (order n h))
+network_more n m h asks station some =
+    network_cuts_levels n m h asks
+    ∙ rw (inputs_order n m h asks) (rw (RoundRobin.order_length n h station) at (cut_exactly m asks (order n h) some))

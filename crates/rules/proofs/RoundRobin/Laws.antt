@@ -3,6 +3,7 @@
 -- Assumes nothing.
 use Rattle.std.specs.Prelude.{ℕ, suc, ◌+◌, ◌-◌, ◌%◌, ◌≤◌, ◌<◌, ◌≡◌, refl, Bool, true, false, cond, ◌&&◌, List, [], ◌∷◌, ◌++◌, ltb, eqb, length, get_or, take}
 use Rattle.std.proofs.Common.{sym, ap, ◌∙◌, append_assoc, arith, mod-lt, ltb-true, ltb-false, eq-eqb, length-append}
+use Rattle.std.proofs.Math.ListN.{get_or-eq_default}
 use Rattle.rules.specs.Head.{Head}
 use Rattle.std.specs.Prelude.{None, Some, unwrap_or}
 use Rattle.rules.specs.Lists.{bit, range, filter, count, member, before}
@@ -140,6 +141,14 @@ granted_one n h asks w l k t e =
     omega (arith, granted_length n 1 h asks, before_count n h asks w l k t) in
     let none : filter asks (before w (order n h)) ≡ [] = Lists.empty _ (Lists.length_filter asks (before w (order n h)) ∙ e) in
     granted_upto n 1 h asks w l k t one ∙ rw none
+
+-- a byte of the grant buffer is 0 or 1
+pub grants_bit : (n m : ℕ) (h : Head) (asks : ℕ → Bool) (i : ℕ) → get_or (grants n m h asks) i 0 ≤ 1
+grants_bit n m h asks i =
+    let long = grants_length n m h asks in
+    Lists.split (ltb i n)
+    (λ t. rw (grants_member n m h asks i (ltb-true i n t)) (Lists.bit_le (member i (granted n m h asks))))
+    (λ f. omega (arith, get_or-eq_default (grants n m h asks) 0 {n = i} (omega (arith, long, ltb-false i n f))))
 
 -- so as many bytes of the grant buffer are 1 as stations are granted
 pub grants_count : (n m : ℕ) (h : Head) (asks : ℕ → Bool) → start h ≤ n

@@ -22,6 +22,10 @@ pub add_codes : (m a b : ℕ) → add m (code a) (code b) ≡ code (min m (a + b
 unfolding add
 add_codes m a b = rw (ones_code a, ones_code b)
 
+pub ones_add : (m a b : ℕ) → ones (add m a b) ≡ min m (ones a + ones b)
+unfolding add
+ones_add m a b = ones_code (min m (ones a + ones b))
+
 -- the saturated adder may be regrouped: 02, N1, "for all m". It is so for any three numbers, not only for codes
 pub add_regroup : (m a b c : ℕ) → add m (add m a b) c ≡ add m a (add m b c)
 unfolding add
@@ -53,7 +57,7 @@ is_code_lem m c l = rw (ones_code c, eq-eqb (code c) (code c) refl) (le-leb c m 
 
 -- the code of a count that is cut off at `most`, which cuts nothing off
 module _ (most m full : ℕ) (few : m ≤ most) (is : full ≡ code (min most m)) where
-  full_code : full ≡ code m
+  pub full_code : full ≡ code m
   full_code = is ∙ ap code (omega arith)
 
   pub full_is_code : is_code most full ≡ true

@@ -1,6 +1,6 @@
 -- A run of stations, step by step, and two runs as one walk round. All that is used of the round-robin rule are its laws.
 -- Assumes nothing.
-use Rattle.std.specs.Prelude.{ℕ, suc, ◌+◌, ◌-◌, ◌%◌, ◌≤◌, ◌<◌, min, ◌≡◌, refl, Bool, true, false, cond, ◌&&◌, List, eqb, ltb, length, get_or, set, replicate, Option, None, Some}
+use Rattle.std.specs.Prelude.{ℕ, suc, ◌+◌, ◌-◌, ◌%◌, ◌≤◌, ◌<◌, min, ◌≡◌, refl, Bool, true, false, cond, ◌&&◌, ◌||◌, List, eqb, ltb, length, get_or, set, replicate, Option, None, Some}
 use Rattle.std.proofs.Common.{sym, ap, ◌∙◌, zero-add, arith, length-set, get_or-set_same, get_or-set_other, ext_get_or, eqb-true, ltb-true, ltb-false, lt-ltb, le-ltb}
 use Rattle.std.proofs.Math.Bool.{and-false}
 use Rattle.std.proofs.lemmas.List.{length-replicate, get_or-replicate}
@@ -11,6 +11,10 @@ use Rattle.rules.specs.Lists.Laws as Lists
 use Rattle.rules.specs.RoundRobin.{start, order, granted, grants, next}
 use Rattle.rules.proofs.RoundRobin.Laws as RoundRobin
 use Rattle.rules.specs.Walk.{reached, RanBy, Ran}
+
+-- when a run begins, nobody more has asked
+pub reached_none : (asks : ℕ → Bool) (from c : ℕ) → reached asks from from c ≡ c
+reached_none asks from c = let none : from - from ≡ 0 = omega arith in rw none (omega arith)
 
 -- a run from a station on, of a walk that granted c₀ before it, the last of them z₀
 module _ (m : ℕ) (asks : ℕ → Bool) (from c₀ : ℕ) (z₀ : Option ℕ) (old : List ℕ) where
@@ -153,6 +157,17 @@ module _ (n m : ℕ) (h : Head) (asks : ℕ → Bool) (station : start h < n) (c
         ap (count asks) (RoundRobin.order_runs n h),
         Lists.count_append asks (range s (n - s)) (range 0 s),
       )
+
+  -- one of them passes m exactly if more than m ask
+  pub over : (ltb m (reached asks s n 0) || ltb m (reached asks 0 s c₁)) ≡ ltb m (count asks (order n h))
+  over =
+      let all : s - 0 ≡ s = omega arith in
+      let parts : count asks (order n h) ≡ many + count asks (range 0 s) =
+      ap (count asks) (RoundRobin.order_runs n h) ∙ Lists.count_append asks (range s (n - s)) (range 0 s) in
+      rw (zero-add, all)
+      (Lists.split (ltb m many)
+      (λ t. rw t (sym (lt-ltb m _ (omega (arith, ltb-true m many t, parts)))))
+      (λ f. let whole : c₁ ≡ many = omega (arith, half_count, ltb-false m many f) in rw (f, whole, parts)))
 
   -- a station of the first run
   high : (w : ℕ) → s ≤ w → w < n → get_or new w 0 ≡ bit (asks w && ltb (count asks (before w (order n h))) m)

@@ -1,12 +1,13 @@
 -- Laws of the words of Lists.
 -- Assumes nothing.
-use Rattle.std.specs.Prelude.{ℕ, zero, suc, ◌+◌, ◌-◌, ◌≤◌, ◌<◌, min, ◌≡◌, refl, Bool, true, false, ◌&&◌, ◌||◌, List, [], ◌∷◌, ◌++◌, map, ltb, eqb, length, take, get_or, set, replicate}
+use Rattle.std.specs.Prelude.{ℕ, zero, suc, ◌+◌, ◌-◌, ◌≤◌, ◌<◌, min, ◌≡◌, refl, Bool, true, false, not, ◌&&◌, ◌||◌, List, [], ◌∷◌, ◌++◌, map, ltb, eqb, length, take, get_or, set, replicate}
 use Rattle.std.proofs.Common.{sym, ap, ◌∙◌, true≢false, zero-add, add-zero, suc-add, add-suc, add-one, one-add, append-nil, arith, length-set, get_or-set_same, get_or-set_other, ext_get_or, eqb-true, eq-eqb, ne_eqb, ltb-true, ltb-false, lt-ltb, le-ltb}
 use Rattle.std.proofs.Math.Bool.{and-true, and-false}
 use Rattle.std.proofs.Math.Dec.{leb-suc-suc}
 use Rattle.std.proofs.lemmas.List.{length-map, length-replicate, get_or-replicate}
 use Rattle.std.proofs.Math.Seq.{take-append-add}
 use Rattle.std.proofs.lemmas.Bool.{eqb-false}
+use Rattle.std.specs.List.{list_any}
 use Rattle.rules.specs.Lists.{bit, range, filter, count, member, marks, before, last}
 
 -- by cases on a test, with its outcome in hand
@@ -41,6 +42,12 @@ bit_le false = omega arith
 pub bit_one : (b : Bool) → eqb (bit b) 1 ≡ b
 bit_one true = refl
 bit_one false = refl
+
+-- a byte that is 0 or 1 is the bit of its being 1
+pub bit_byte : (b : ℕ) → b ≤ 1 → bit (eqb b 1) ≡ b
+bit_byte zero l = refl
+bit_byte (suc zero) l = refl
+bit_byte (suc (suc b)) l = absurd (omega arith)
 
 -- counting along two lists, one after the other
 pub count_append : {A : Type 0} (p : A → Bool) (xs ys : List A) → count p (xs ++ ys) ≡ count p xs + count p ys
@@ -555,3 +562,81 @@ first_left p (x ∷ xs) w ws e =
     (λ f.
     let r = first_left p xs w ws (rw f at e) in
     (r.0, split (eqb w x) (λ q. rw q) (λ q. rw (q, f) (omega (arith, r.1)))))
+
+-- one at least passes exactly if they are more than none
+pub any_count : (p : ℕ → Bool) (xs : List ℕ) → list_any p xs ≡ ltb 0 (count p xs)
+any_count p [] = refl
+any_count p (x ∷ xs) =
+    split (p x)
+    (λ t. rw t (sym (lt-ltb 0 (1 + count p xs) (omega arith))))
+    (λ f. rw (f, zero-add (count p xs)) (any_count p xs))
+
+-- one of a range passes, or none does
+pub any_range : (p : ℕ → Bool) (a k w : ℕ) → a ≤ w → w < a + k → p w ≡ true → list_any p (range a k) ≡ true
+any_range p a zero w l u t = absurd (omega arith)
+any_range p a (suc k) w l u t =
+    split (eqb a w)
+    (λ e. rw (eqb-true a w e, t))
+    (λ e.
+    let there = any_range p (suc a) k w (omega (arith, eqb-false a w e)) (omega arith) t in
+    split (p a) (λ q. rw q) (λ q. rw q there))
+
+-- it is the same of two tests that are
+pub any_same : (p q : ℕ → Bool) (a k : ℕ) → ((w : ℕ) → a ≤ w → w < a + k → p w ≡ q w) → list_any p (range a k) ≡ list_any q (range a k)
+any_same p q a zero same = refl
+any_same p q a (suc k) same =
+    rw (same a (omega arith) (omega arith), any_same p q (suc a) k (λ w l u. same w (omega arith) (omega arith)))
+
+pub any_found : (p : ℕ → Bool) (a k : ℕ) → list_any p (range a k) ≡ true → (w : ℕ) × (a ≤ w) × (w < a + k) × (p w ≡ true)
+any_found p a zero e = absurd (true≢false (sym e))
+any_found p a (suc k) e =
+    split (p a)
+    (λ q. (a, omega arith, omega arith, q))
+    (λ q. let r = any_found p (suc a) k (rw q at e) in (r.0, omega (arith, r.1), omega (arith, r.2), r.3))
+
+pub any_none : (p : ℕ → Bool) (a k : ℕ) → ((w : ℕ) → a ≤ w → w < a + k → p w ≡ false) → list_any p (range a k) ≡ false
+any_none p a zero none = refl
+any_none p a (suc k) none =
+    rw (none a (omega arith) (omega arith)) (any_none p (suc a) k (λ w l u. none w (omega arith) (omega arith)))
+
+pub any_not : (p : ℕ → Bool) (a k : ℕ) → list_any p (range a k) ≡ false → (w : ℕ) → a ≤ w → w < a + k → p w ≡ false
+any_not p a k e w l u =
+    split (p w) (λ t. absurd (true≢false (sym (any_range p a k w l u t) ∙ e))) (λ f. f)
+
+-- one number more
+pub any_next : (p : ℕ → Bool) (from i : ℕ) → from ≤ i → list_any p (range from (i + 1 - from)) ≡ (list_any p (range from (i - from)) || p i)
+any_next p from i l =
+    let one : i + 1 - from ≡ suc (i - from) = omega arith in
+    let here : from + (i - from) ≡ i = omega arith in
+    ap (λ (k : ℕ). list_any p (range from k)) one
+    ∙ ap (list_any p) (range_snoc from (i - from))
+    ∙ any_last (range from (i - from)) (from + (i - from))
+    ∙ rw here
+  where
+    any_last : (xs : List ℕ) (x : ℕ) → list_any p (xs ++ (x ∷ [])) ≡ (list_any p xs || p x)
+    any_last [] x = split (p x) (λ q. rw q) (λ q. rw q)
+    any_last (y ∷ ys) x = split (p y) (λ q. rw q) (λ q. rw q (any_last ys x))
+
+-- those that pass and are not in a list are as many fewer as the list is long, if it holds some of them, each once
+pub count_outside : (p : ℕ → Bool) (xs : List ℕ) (n : ℕ) → ((w : ℕ) → count (eqb w) xs ≤ bit (p w && ltb w n))
+    → count (λ w. p w && not (member w xs)) (range 0 n) + length xs ≡ count p (range 0 n)
+count_outside p xs n once =
+    omega (
+      arith,
+      parts (range 0 n),
+      marks_count xs (λ w. omega (arith, once w, bit_le (p w && ltb w n))) n
+          (λ w l. let out : (p w && ltb w n) ≡ false = rw (le-ltb w n l) (and-false (p w)) in omega (arith, once w, ap bit out)),
+      count_marks (λ w. member w xs) (range 0 n),
+    )
+  where
+    apart : (w : ℕ) → bit (p w && not (member w xs)) + bit (member w xs) ≡ bit (p w)
+    apart w =
+        split (member w xs)
+        (λ t.
+        let inside : 1 ≤ bit (p w && ltb w n) = omega (arith, ap bit t, member_count w xs, once w) in
+        split (p w) (λ q. rw (t, q)) (λ q. absurd (omega (arith, rw q at inside))))
+        (λ f. split (p w) (λ q. rw (f, q)) (λ q. rw (f, q)))
+
+    parts : (ws : List ℕ) → count (λ w. p w && not (member w xs)) ws + count (λ w. member w xs) ws ≡ count p ws
+    parts [] = refl
+    parts (w ∷ ws) = omega (arith, apart w, parts ws)

@@ -14,17 +14,17 @@ known-saved :
 known-saved = (refl, refl, refl, refl)
 
 known_read :
-    (read (0 ∷ 1 ∷ 1 ∷ 0 ∷ 1 ∷ 1 ∷ []) ≡ served 0 (made 257 1 (Some 256)))
-    × (read (255 ∷ 3 ∷ 8 ∷ 255 ∷ 3 ∷ 1 ∷ []) ≡ served 0 (made 1024 8 (Some 1023)))
-    × (read (255 ∷ 3 ∷ 8 ∷ 0 ∷ 0 ∷ 0 ∷ []) ≡ served 0 (made 1024 8 None))
+    (read (0 ∷ 1 ∷ 1 ∷ 0 ∷ 1 ∷ 1 ∷ []) ≡ served (made 257 1 (Some 256)))
+    × (read (255 ∷ 3 ∷ 8 ∷ 255 ∷ 3 ∷ 1 ∷ []) ≡ served (made 1024 8 (Some 1023)))
+    × (read (255 ∷ 3 ∷ 8 ∷ 0 ∷ 0 ∷ 0 ∷ []) ≡ served (made 1024 8 None))
 unfolding long_fields short_fields fields
 known_read = (refl, refl, refl)
 
 -- four bytes, as they were saved before: 01's forms
 known-short :
-    (read (3 ∷ 2 ∷ 1 ∷ 1 ∷ []) ≡ served 0 (made 4 2 (Some 1)))
-    × (read (255 ∷ 8 ∷ 255 ∷ 1 ∷ []) ≡ served 0 (made 256 8 (Some 255)))
-    × (read (0 ∷ 1 ∷ 0 ∷ 0 ∷ []) ≡ served 0 (made 1 1 None))
+    (read (3 ∷ 2 ∷ 1 ∷ 1 ∷ []) ≡ served (made 4 2 (Some 1)))
+    × (read (255 ∷ 8 ∷ 255 ∷ 1 ∷ []) ≡ served (made 256 8 (Some 255)))
+    × (read (0 ∷ 1 ∷ 0 ∷ 0 ∷ []) ≡ served (made 1 1 None))
 unfolding long_fields short_fields fields
 known-short = (refl, refl, refl)
 

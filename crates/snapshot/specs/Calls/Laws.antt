@@ -116,7 +116,7 @@ asked_rest make bytes f byte e =
 
 -- reading answers by what the questions say
 pub read_passed : (bytes : List ℕ) (f : Fields) → (questions bytes then Ok (fields bytes)) ≡ Ok f
-    → read bytes ≡ served 0 (made f.width f.picks (marked f.station f.mark))
+    → read bytes ≡ served (made f.width f.picks (marked f.station f.mark))
 read_passed bytes f e =
     let both = then_served (questions bytes) (Ok (fields bytes)) e in
     let same : fields bytes ≡ f = cc in

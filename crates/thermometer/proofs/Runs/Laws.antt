@@ -1,6 +1,6 @@
 -- The code that a walk carries is the running code of the cycle: at each station 01's saturated count of those that ask before it.
 -- Assumes nothing.
-use Rattle.std.specs.Prelude.{ℕ, suc, ◌+◌, ◌-◌, ◌≤◌, ◌<◌, min, ◌≡◌, Bool, true, List, ◌++◌, map, length, get_or}
+use Rattle.std.specs.Prelude.{ℕ, suc, ◌+◌, ◌-◌, ◌≤◌, ◌<◌, min, ◌≡◌, Bool, true, ◌||◌, List, ◌++◌, map, ltb, length, get_or}
 use Rattle.std.proofs.Common.{sym, ap, ◌∙◌, append_assoc, arith}
 use Rattle.std.proofs.lemmas.List.{map-append}
 use Rattle.std.specs.Int.Count.{ones}
@@ -82,11 +82,15 @@ module _ (m : ℕ) (requests : List ℕ) (from to : ℕ) (walk now : Walk) (old 
       → min m (ones (code_at m requests from to walk.code w)) ≡ min m (reached (requested requests) from w (ones walk.code))
   same w k u = omega (arith, code_counts m requests from to walk.code coded w k u)
 
+  -- with what it says of more than m
+  abbrev Over : Type 0
+  Over = now.more ≡ (walk.more || ltb m (reached (requested requests) from to (ones walk.code)))
+
   pub to_counts : Ran m requests from to walk old now new → ByCounts
   to_counts r = Walk.recounted l same r.ran
 
-  pub to_codes : ByCounts → now.code ≡ code_at m requests from to walk.code to → Ran m requests from to walk old now new
-  to_codes r e = record { carried = e; ran = Walk.recounted l (λ w k u. sym (same w k u)) r }
+  pub to_codes : ByCounts → now.code ≡ code_at m requests from to walk.code to → Over → Ran m requests from to walk old now new
+  to_codes r e o = record { carried = e; ran = Walk.recounted l (λ w k u. sym (same w k u)) r; more = o }
 
 -- a walk from the first station, and a walk that goes on from 0: `half` is how far it has come at the last station, and `now` how
 -- far before station w. What it carries is the cycle's running code at the position of w, and past the last where no station is left

@@ -1,7 +1,7 @@
 -- Laws of the bus's calls: what is known once the questions have passed; that a served cycle is by the bus's rule; what a cycle
 -- decides and grants once the first station that asks is found.
 -- Assumes nothing.
-use Rattle.std.specs.Prelude.{ℕ, ◌+◌, ◌%◌, ◌≤◌, ◌<◌, ◌≡◌, Bool, true, false, cond, List, [], ◌∷◌, length, set, replicate, Option, None, Some, MatchOption, Ok}
+use Rattle.std.specs.Prelude.{ℕ, ◌+◌, ◌%◌, ◌≤◌, ◌<◌, ◌≡◌, Bool, true, false, cond, not, ◌&&◌, nat_eq, eqb, List, [], ◌∷◌, length, set, replicate, Option, None, Some, MatchOption, Ok}
 use Rattle.std.proofs.Math.Path.{refl, sym}
 use Rattle.std.proofs.Common.{ap, ◌∙◌, arith, lt-ltb, le-leb}
 use Rattle.rules.specs.Head.{Head}
@@ -9,6 +9,8 @@ use Rattle.rules.specs.Lists.{bit, marks}
 use Rattle.rules.specs.Lists.Laws as Lists
 use Rattle.rules.specs.RoundRobin.{start}
 use Rattle.rules.proofs.RoundRobin.Laws as RoundRobin
+use lib.Pointwise.{pointwise}
+use Rattle.rules.specs.Pending.{more}
 use Rattle.rules.specs.Bus as Bus
 use Rattle.rules.proofs.Bus.Laws as BusLaws
 use Rattle.arbiter.specs.declared.State.{State}
@@ -22,7 +24,7 @@ use Rattle.arbiter.specs.Answers.{Outcome, number, answered, if_passed}
 use Rattle.arbiter.specs.Answers.Laws.{writes_passed, writes_is, writes_refused, answered_writes}
 use Rattle.arbiter.specs.Cycle.{asking}
 use Rattle.arbiter.specs.Decisions.{requested}
-use Rattle.arbiter.specs.Decisions.Laws.{none_granted}
+use Rattle.arbiter.specs.Decisions.Laws.{none_granted, none_more, pending_bytes}
 use Rattle.arbiter.specs.Decisions.OnePick as OnePick
 use Rattle.token_bus.specs.Calls.{state, token, decision, answer, granting, questions, cycle}
 
@@ -159,9 +161,13 @@ module _ (n t : ℕ) (requests : List ℕ) (station : t < n) where
   found None long e f low = low f ∙ OnePick.found_low n (Some t) requests head long (rw (RoundRobin.start_at t) (sym e))
   found (Some w) long e f low = f ∙ OnePick.found_high n (Some t) requests head long w (rw (RoundRobin.start_at t) (sym e))
 
-  -- no grant: the token stays
-  pub idle_decides : (ack : Bool) → first granted ≡ None → record { count = 0; next = Some t } ≡ decision n t ack asks
-  idle_decides ack e = let none = first_none granted e in rw (BusLaws.next_idle n t ack asks none, none)
+  -- no grant: the token stays, and nobody asks
+  pub idle_decides : (ack : Bool) → first granted ≡ None → record { count = 0; next = Some t; more = false } ≡ decision n t ack asks
+  unfolding Bus.granted
+  idle_decides ack e =
+      let none = first_none granted e in
+      rw (BusLaws.next_idle n t ack asks none, none)
+      (ap (λ b. record { count = 0; next = Some t; more = b }) (sym (none_more n 1 (Some t) asks (omega arith) (omega (arith, head)) none)))
 
   pub idle_grants : first granted ≡ None → replicate n 0 ≡ Bus.grants n t asks
   idle_grants e = Lists.marks_none n ∙ sym (BusLaws.grants_marks n t asks ∙ ap (marks n) (first_none granted e))
@@ -176,19 +182,31 @@ module _ (n t : ℕ) (requests : List ℕ) (station : t < n) where
     unfolding Bus.granted
     granted_below = OnePick.granted_below n (Some t) asks head w e
 
-    pub granted_decides : (ack : Bool) → record { count = 1; next = Some (cond ack ((t + 1) % n) t) } ≡ decision n t ack asks
-    granted_decides ack = rw only (ap (λ (k : ℕ). record { count = 1; next = Some k }) (to ack))
+    pub granted_grants : set (replicate n 0) w 1 ≡ Bus.grants n t asks
+    granted_grants = Lists.marks_one n w granted_below ∙ sym (BusLaws.grants_marks n t asks ∙ ap (marks n) only)
+
+    -- more are pending exactly if the grants are not the requests
+    pending : {m : ℕ} {new : List ℕ} → length requests ≡ n → Bits requests → m ≡ 1 → new ≡ set (replicate n 0) w 1
+        → (eqb 1 m && not (pointwise nat_eq requests new)) ≡ more n asks (w ∷ [])
+    unfolding Bus.granted Bus.grants
+    pending long bits one made =
+        rw one (pending_bytes n 1 (Some t) requests (omega (arith, head)) long bits (sym (ap length only)) (made ∙ granted_grants))
+        ∙ ap (more n asks) only
+
+    pub granted_decides : (ack : Bool) {m : ℕ} {new : List ℕ} {b : Bool} → length requests ≡ n → Bits requests → m ≡ 1 → new ≡ set (replicate n 0) w 1
+        → b ≡ (eqb 1 m && not (pointwise nat_eq requests new))
+        → record { count = 1; next = Some (cond ack ((t + 1) % n) t); more = b } ≡ decision n t ack asks
+    granted_decides ack long bits one made e =
+        rw (e ∙ pending long bits one made, only) (ap (λ (k : ℕ). record { count = 1; next = Some k; more = more n asks (w ∷ []) }) (to ack))
       where
         to : (b : Bool) → cond b ((t + 1) % n) t ≡ Bus.next n t b asks
         to true = sym (BusLaws.next_acknowledged n t asks (omega (arith, ap length only)))
         to false = sym (BusLaws.next_unacknowledged n t asks)
 
-    pub granted_grants : set (replicate n 0) w 1 ≡ Bus.grants n t asks
-    granted_grants = Lists.marks_one n w granted_below ∙ sym (BusLaws.grants_marks n t asks ∙ ap (marks n) only)
-
--- and a refused one changes nothing
+-- and a refused one changes nothing, and no more are pending
 pub cycle_refused : (s : State) (requests former : List ℕ) (byte : ℕ)
-    → let o = cycle s requests former byte in (number o.answer ≡ 0 → ⊥) → (o.answer.state ≡ s) × (o.written ≡ former)
+    → let o = cycle s requests former byte in
+    (number o.answer ≡ 0 → ⊥) → (o.answer.state ≡ s) × (o.written ≡ former) × (o.answer.more ≡ false)
 cycle_refused s requests former byte n =
     writes_refused (questions s.width s.picks s.head requests (length former) byte) s (answer s requests byte) (granting s requests) former
     refl

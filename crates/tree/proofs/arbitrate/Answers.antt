@@ -1,11 +1,34 @@
--- `arbitrate` meets its contract: the tree that is built holds values.
+-- `arbitrate` meets its contract: the tree that is built holds values, and grants as the rule does.
 -- Assumes nothing.
-use Rattle.std.proofs.Common.{◌∙◌, sym}
-use Rattle.tree.specs.Calls.Laws.{ready, tree_values}
+use Rattle.std.proofs.Common.{Bool, true, false, ◌≡◌, ◌∙◌, refl, sym, ap, Ok}
+use mir.Val.{bool_byte}
+use Rattle.rules.specs.Lists.{bit}
+use Rattle.tree.specs.Calls.Laws.{ready, tree_values, tree_decides}
 use Rattle.tree.proofs.arbitrate.Goals as goal
 
-pub grant-requires-clause-values : goal.grant-requires-clause-values
-grant-requires-clause-values c =
+pub grant-granted-requires-clause-values : goal.grant-granted-requires-clause-values
+grant-granted-requires-clause-values c =
     let a = c.args in
     let asked = ready a.width a.picks a.head a.requests.now _ _ (sym c.cycle.ensures ∙ c.in_ok-cycle.was) in
     rw (c.build.ensures.same_width, c.build.ensures.bytes_after) (tree_values a.width a.picks a.head _ asked.allows)
+
+-- a test as a number
+as_bit : (b : Bool) → bool_byte b ≡ bit b
+as_bit true = refl
+as_bit false = refl
+
+pub returns-clause-value : goal.returns-clause-value
+returns-clause-value c =
+    let a = c.args in
+    let z = c.grant-granted.ensures in
+    let passed = sym c.cycle.ensures ∙ c.in_ok-cycle.was in
+    let r = ready a.width a.picks a.head a.requests.now _ _ passed in
+    let one = c.from-count.ensures ∙ as_bit c.is_some.result ∙ ap bit c.is_some.ensures in
+    rw passed
+    (ap Ok
+    (c.decide.ensures
+    ∙ tree_decides a.width a.picks a.head a.requests.now r.allows r.asked r.wires c.grant-granted.result
+    (z.value ∙ rw (c.build.ensures.same_width, c.build.ensures.bytes_after))
+    one
+    (z.grants_after ∙ rw (c.build.ensures.same_width, c.build.ensures.bytes_after))
+    (c.pending-more.ensures ∙ rw (z.same_picks, z.same_requests))))

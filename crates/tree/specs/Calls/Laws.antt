@@ -1,25 +1,29 @@
 -- Laws of the tree's calls: what is known once the questions have passed, how a call meets its definition, and that the descent
 -- decides and grants as the round-robin rule.
 -- Assumes nothing.
-use Rattle.std.specs.Prelude.{ℕ, ◌*◌, ◌^◌, ◌≤◌, ◌<◌, ◌≡◌, refl, Bool, List, length, Ok, Err}
-use Rattle.std.proofs.Common.{sym}
+use Rattle.std.specs.Prelude.{ℕ, ◌*◌, ◌^◌, ◌≤◌, ◌<◌, ◌≡◌, refl, Bool, not, ◌&&◌, nat_eq, List, eqb, length, Option, is_some, Ok, Err}
+use Rattle.std.proofs.Common.{ap, ◌∙◌, arith}
+use lib.Pointwise.{pointwise}
+use Rattle.rules.proofs.Walk.Laws.{Walked}
 use Rattle.rules.specs.Head.{Head}
+use Rattle.rules.specs.Lists.{bit}
 use Rattle.rules.specs.RoundRobin.{start, grants}
 use Rattle.rules.proofs.RoundRobin.Laws as RoundRobin
 use Rattle.rules.specs.Tree as Rule
 use Rattle.rules.proofs.Tree.Laws as Tree
 use Rattle.arbiter.specs.declared.State.{State}
-use Rattle.arbiter.specs.Places.{Bits}
+use Rattle.arbiter.specs.Places.{Bits, first}
 use Rattle.arbiter.specs.Questions as Questions
 use Rattle.arbiter.specs.Questions.{Verdict, passed, ◌then◌}
 use Rattle.arbiter.specs.Questions.Laws.{then_served, width_served, tree_width_served, one_pick_served, head_served, length_served, bits_served}
 use Rattle.arbiter.specs.Answers.{answered, if_passed, refused}
 use Rattle.arbiter.specs.Cycle.{asking, answer, granting}
-use Rattle.arbiter.specs.Decisions.{decision}
-use Rattle.arbiter.specs.Decisions.Laws.{decided_granted}
+use Rattle.arbiter.specs.Decisions.{requested, decision, counted}
+use Rattle.arbiter.specs.Decisions.Laws.{walked, pending_bytes}
+use Rattle.arbiter.specs.Decisions.OnePick.{one_walked}
 use Rattle.tree.specs.Subtrees.Laws.{chosen_granted}
 use Rattle.tree.specs.Calls.{Outcome, state, questions, cycle}
-use Rattle.tree.specs.Steps.{Values, descended}
+use Rattle.tree.specs.Steps.{Values}
 
 -- what is known once 1, 2, 3 and 4 have passed
 pub record Allowed (n m : ℕ) (h : Head) : Type 0 where
@@ -99,16 +103,19 @@ module _ (n m : ℕ) (h : Head) (asks : ℕ → Bool) (a : Allowed n m h) where
   tree = Rule.nodes n h asks
 
   -- the tree of the requests and the head grants whom the round-robin rule grants
-  pub tree_decides : descended n h tree ≡ decision n m h asks
-  tree_decides =
-      let same = chosen_granted n a.levels h asks a.power a.station in
-      decided_granted n m h asks (Rule.chosen n tree) (rw a.one (sym same))
-
   pub tree_grants : Rule.grants n tree ≡ grants n m h asks
   unfolding Rule.grants
   tree_grants =
       let same = chosen_granted n a.levels h asks a.power a.station in
       rw (a.one, same, RoundRobin.grants_marks n 1 h asks)
+
+  tree_walked : (z : Option ℕ) {new : List ℕ} → z ≡ first (Rule.chosen n tree) → new ≡ Rule.grants n tree
+      → Walked n m h asks (bit (is_some z)) z new
+  tree_walked z e bytes =
+      let same = chosen_granted n a.levels h asks a.power a.station in
+      let grants : grants n m h asks ≡ grants n 1 h asks = rw a.one in
+      let one = one_walked n h asks a.station z (e ∙ ap first same) (bytes ∙ tree_grants ∙ grants) in
+      rw (← a.one) at one
 
   -- and its bytes are values
   pub tree_values : Values n tree
@@ -116,3 +123,14 @@ module _ (n m : ℕ) (h : Head) (asks : ℕ → Bool) (a : Allowed n m h) where
 
   pub tree_length : length tree ≡ 2 * n
   tree_length = Tree.nodes_length_lem n h asks a.some
+
+-- so what is decided where it grants z, if anyone, is what the rule decides
+pub tree_decides : (n m : ℕ) (h : Head) (requests : List ℕ) → Allowed n m h → length requests ≡ n → Bits requests
+    → (z : Option ℕ) {c : ℕ} {new : List ℕ} {pending : Bool} → z ≡ first (Rule.chosen n (Rule.nodes n h (requested requests))) → c ≡ bit (is_some z)
+    → new ≡ Rule.grants n (Rule.nodes n h (requested requests)) → pending ≡ (eqb c m && not (pointwise nat_eq requests new))
+    → counted n h c z pending ≡ decision n m h (requested requests)
+tree_decides n m h requests a long bits z e one bytes more =
+    let w = tree_walked n m h (requested requests) a z e bytes in
+    rw one
+    (walked n m h (requested requests) (omega (arith, a.one)) (omega (arith, a.station)) w
+    (more ∙ pending_bytes n m h requests (omega (arith, a.station)) long bits (one ∙ w.counted) w.bytes))

@@ -1,12 +1,10 @@
--- Laws of the steps: what is decided at the station that the descent reached, with its request, is what the node buffer decides.
+-- Laws of the steps: whom the node buffer grants, by the request of the station that the descent reached.
 -- Assumes nothing.
-use Rattle.std.specs.Prelude.{ℕ, ◌+◌, ◌≤◌, ◌≡◌, Bool, true, false, List, [], ◌∷◌, get_or, set, replicate}
-use Rattle.rules.specs.Head.{Head}
+use Rattle.std.specs.Prelude.{ℕ, ◌+◌, ◌≤◌, ◌≡◌, Bool, true, false, List, get_or, set, replicate, None, Some}
 use Rattle.rules.specs.Lists.Laws as Lists
 use Rattle.rules.specs.Tree as Rule
 use Rattle.rules.proofs.Tree.Laws as Tree
-use Rattle.arbiter.specs.Decisions.{deciding}
-use Rattle.tree.specs.Steps.{descended}
+use Rattle.arbiter.specs.Places.{first}
 
 module _ (n : ℕ) (t : List ℕ) where
   abbrev r : ℕ
@@ -16,13 +14,13 @@ module _ (n : ℕ) (t : List ℕ) where
   asks = Rule.s0 (get_or t (n + r) 0)
 
   -- the station reached asks, or it does not
-  pub descended_one : (h : Head) → asks ≡ true → deciding n h (r ∷ []) ≡ descended n h t
+  pub chosen_one : asks ≡ true → Some r ≡ first (Rule.chosen n t)
   unfolding Rule.chosen
-  descended_one h e = rw e
+  chosen_one e = rw e
 
-  pub descended_none : (h : Head) → asks ≡ false → deciding n h [] ≡ descended n h t
+  pub chosen_none : asks ≡ false → None ≡ first (Rule.chosen n t)
   unfolding Rule.chosen
-  descended_none h e = rw e
+  chosen_none e = rw e
 
   -- and the grant buffer
   pub grants_one : 1 ≤ n → asks ≡ true → set (replicate n 0) r 1 ≡ Rule.grants n t

@@ -10,5 +10,9 @@ join_all-requires-clause-codes c =
 
 pub returns : goal.returns
 returns c =
-    Order.come_out _ c.args.requests.now c.args.picks.some c.requires.bits _ _ c.rotate.ensures c.args.head (omega arith)
-    c.first_station-first.ensures c.join_all.ensures
+    let a = c.args in
+    let first = c.first_station-first.ensures in
+    record {
+      value = Order.cut_off _ a.requests.now a.picks.some c.requires.bits _ _ c.rotate.ensures a.head (omega arith) first c.join_all.ensures.value;
+      codes_after = Order.come_out _ a.requests.now a.picks.some c.requires.bits _ _ c.rotate.ensures a.head (omega arith) first c.join_all.ensures.codes_after;
+    }

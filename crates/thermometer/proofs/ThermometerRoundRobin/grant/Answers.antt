@@ -2,9 +2,11 @@
 -- Assumes nothing.
 use Rattle.std.proofs.Common.{length, ◌≡◌, refl, ap, ◌∙◌, arith}
 use Rattle.std.specs.Int.Count.{ones}
-use Rattle.rules.specs.RoundRobin.{grants}
+use Rattle.rules.specs.Walk as Walks
+use Rattle.rules.proofs.Walk.Laws.{Walked}
+use Rattle.std.specs.Prelude.{None}
 use Rattle.rules.proofs.Thermometer.Laws.{zero_ones, zero_is_code}
-use Rattle.arbiter.specs.Decisions.{requested, decision, counted}
+use Rattle.arbiter.specs.Decisions.{requested, counted}
 use Rattle.arbiter.specs.Decisions.Laws as Decisions
 use Rattle.thermometer.proofs.Runs.Laws.{hands_code, to_counts}
 use mir.Syntax.{Args, fn, fn₀}
@@ -28,26 +30,42 @@ pub count_run-walk-requires-clause-code_value : goal.count_run-walk-requires-cla
 count_run-walk-requires-clause-code_value c =
     hands_code _ _ _ _ _ _ _ _ (zero_is_code c.args.cycle.now.picks) (omega (arith, c)) c.count_run-half.ensures
 
-round : (c : goal.After-decide)
+-- the two runs, told by counts
+high : (c : goal.After-decide)
     → let y = c.args.cycle.now in
-    let n = length y.requests.now in
+    let half = c.count_run-half in
+    Walks.Ran y.picks (requested y.requests.now) c.first_station-first.result (length y.requests.now) 0 None c.fill.new.self (ones half.result.code) half.result.last half.new.grants
+high c = rw zero_ones at (to_counts _ _ _ _ _ _ _ _ (zero_is_code c.args.cycle.now.picks) (omega (arith, c)) c.count_run-half.ensures)
+
+low : (c : goal.After-decide)
+    → let y = c.args.cycle.now in
+    let half = c.count_run-half in
     let walk = c.count_run-walk in
-    (counted n y.head (ones walk.result.code) walk.result.last ≡ decision n y.picks y.head (requested y.requests.now))
-    × (walk.new.grants ≡ grants n y.picks y.head (requested y.requests.now))
-round c =
+    Walks.Ran y.picks (requested y.requests.now) 0 c.first_station-first.result (ones half.result.code) half.result.last half.new.grants (ones walk.result.code) walk.result.last walk.new.grants
+low c =
+    let coded = hands_code _ _ _ _ _ _ _ _ (zero_is_code c.args.cycle.now.picks) (omega (arith, c)) c.count_run-half.ensures in
+    to_counts _ _ _ _ _ _ _ _ coded (omega arith) c.count_run-walk.ensures
+
+walked : (c : goal.After-decide)
+    → let y = c.args.cycle.now in
+    let walk = c.count_run-walk in
+    Walked (length y.requests.now) y.picks y.head (requested y.requests.now) (ones walk.result.code) walk.result.last walk.new.grants
+walked c =
     let y = c.args.cycle.now in
-    let n = length y.requests.now in
-    let none = zero_is_code y.picks in
-    let half = to_counts _ _ _ _ _ _ _ _ none (omega (arith, c)) c.count_run-half.ensures in
-    let coded = hands_code _ _ _ _ _ _ _ _ none (omega (arith, c)) c.count_run-half.ensures in
-    let rest = to_counts _ _ _ _ _ _ _ _ coded (omega arith) c.count_run-walk.ensures in
-    Decisions.round n y.picks y.head (requested y.requests.now) y.head_bound c.first_station-first.ensures (c.fill.ensures.after (λ _ e. e)) y.grants_len (rw zero_ones at half) rest
+    Decisions.round _ _ _ _ y.head_bound c.first_station-first.ensures (c.fill.ensures.after (λ _ e. e)) y.grants_len (high c) (low c)
 
 pub returns-clause-value : goal.returns-clause-value
 returns-clause-value c =
     let y = c.args.cycle.now in
     let n = length y.requests.now in
-    c.decide.ensures ∙ ap (λ x. counted n y.head x c.count_run-walk.result.last) c.count-count.ensures ∙ (round c).0
+    let walk = c.count_run-walk in
+    let over =
+    Decisions.over n y.picks y.head (requested y.requests.now) y.head_bound c.first_station-first.ensures (c.fill.ensures.after (λ _ e. e)) y.grants_len (high c) (low c)
+    (rw zero_ones at c.count_run-half.ensures.more)
+    walk.ensures.more in
+    c.decide.ensures
+    ∙ ap (λ x. counted n y.head x walk.result.last walk.result.more) c.count-count.ensures
+    ∙ Decisions.walked _ _ _ _ y.picked (omega (arith, y.head_bound)) (walked c) over
 
 pub returns-clause-grants_after : goal.returns-clause-grants_after
-returns-clause-grants_after c = (round c).1
+returns-clause-grants_after c = (walked c).bytes
