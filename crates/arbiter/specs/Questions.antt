@@ -6,7 +6,7 @@ use Rattle.rules.specs.Head.{Head}
 use Rattle.rules.specs.Lists.{range, member}
 use Rattle.rules.specs.Thermometer.{is_code}
 use Rattle.arbiter.specs.declared.refusal.Refusal.{Refusal}
-use Rattle.arbiter.specs.declared.refusal.Refusal.TheVariants.{Width, TreeWidth, Picks, HeadRange, ReadLength, WriteLength, NodesLength, NotABit, Acknowledge, SecondOne, Code, UnusedBit}
+use Rattle.arbiter.specs.declared.refusal.Refusal.TheVariants.{Width, TreeWidth, Picks, HeadRange, ReadLength, WriteLength, NodesLength, NotABit, Acknowledge, SecondOne, Code, UnusedBit, WaitingLength, Overflow}
 use Rattle.arbiter.specs.Places.{places, ones, set_lines}
 pub mod Laws
 pub mod Known
@@ -100,6 +100,19 @@ codes m a b = refuse_unless (is_code m a && is_code m b) Code
 -- 14 (02, N2): "with the byte's place, is a set unused bit", a line that is set and no station's
 abbrev pub unused_bits : ℕ → List ℕ → Verdict
 unused_bits n packed = refuse_at_first UnusedBit (map (λ i. i / 8) (set_lines n packed))
+
+-- 15 (02, N6): "a waiting buffer not of N numbers"
+abbrev pub waiting_length : ℕ → ℕ → Verdict
+waiting_length n length = refuse_unless (eqb length n) WaitingLength
+
+-- the most messages that wait at a station: 02, N6, "4,294,967,295"
+abbrev pub max_waiting : ℕ
+max_waiting = 4294967295
+
+-- 16 (02, N6): is there no "number that would pass" the most? The numbers are those after the arrivals; a refusal is "with the lowest
+-- such station"
+abbrev pub overflow : List ℕ → Verdict
+overflow numbers = refuse_at_first Overflow (places (ltb max_waiting) 0 numbers)
 
 -- 1, 3 and 4
 abbrev pub state : ℕ → ℕ → Head → Verdict

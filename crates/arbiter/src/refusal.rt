@@ -2,7 +2,7 @@
 ghost use Rattle.std.specs.Prelude.{◌≡◌};
 ghost use Rattle.arbiter.specs.Refusals as Refusals;
 
-// A refusal, by the question that was answered no. The byte questions name the place that they refuse.
+// A refusal, by the question that was answered no. Those about single bytes and numbers name the place that they refuse.
 #[derive(Clone, Copy, Debug, PartialEq, Eq)]
 pub enum Refusal {
     Width,
@@ -19,6 +19,8 @@ pub enum Refusal {
     InputLength,
     Code,
     UnusedBit(usize),
+    WaitingLength,
+    Overflow(usize),
 }
 
 impl Refusal {
@@ -41,16 +43,20 @@ impl Refusal {
             Refusal::InputLength => 12,
             Refusal::Code => 13,
             Refusal::UnusedBit(_) => 14,
+            Refusal::WaitingLength => 15,
+            Refusal::Overflow(_) => 16,
         }
     }
 
-    // The place that is refused, a number as 01 has it: 0 except for 8, 10 and 14.
+    // The place that is refused, a number as 01 has it: 0 except for 8, 10, 14 and 16.
     pub fn place(self) -> usize
         ensures { result ≡ Refusals.place self }
     {
         match self {
-            Refusal::NotABit(place) | Refusal::SecondOne(place) | Refusal::UnusedBit(place) =>
-                place,
+            Refusal::NotABit(place)
+            | Refusal::SecondOne(place)
+            | Refusal::UnusedBit(place)
+            | Refusal::Overflow(place) => place,
             _ => 0,
         }
     }

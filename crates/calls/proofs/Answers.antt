@@ -23,7 +23,7 @@ use Rattle.rules.proofs.Bus.Laws as BusRuleLaws
 use Rattle.arbiter.specs.declared.Answer.{Answer}
 use Rattle.arbiter.specs.declared.State.{State}
 use Rattle.arbiter.specs.declared.refusal.Refusal.{Refusal}
-use Rattle.arbiter.specs.declared.refusal.Refusal.TheVariants.{Width, TreeWidth, Picks, HeadRange, ReadLength, WriteLength, NodesLength, NotABit, Acknowledge, SecondOne, FirstLine, InputLength, Code, UnusedBit}
+use Rattle.arbiter.specs.declared.refusal.Refusal.TheVariants.{Width, TreeWidth, Picks, HeadRange, ReadLength, WriteLength, NodesLength, NotABit, Acknowledge, SecondOne, FirstLine, InputLength, Code, UnusedBit, WaitingLength, Overflow}
 use Rattle.arbiter.specs.Questions.{Verdict, refuse_unless, ◌then◌}
 use Rattle.arbiter.specs.Answers as Answers
 use Rattle.arbiter.specs.Answers.{Outcome, moved, served, refused, if_passed, number, place, number_of, place_of}
@@ -39,7 +39,9 @@ use Rattle.token_bus.specs.Calls.Laws as BusLaws
 use Rattle.engines.specs.declared.Engine.{Engine}
 use Rattle.engines.specs.declared.Engine.TheVariants.{Scan}
 use Rattle.engines.specs.Calls.Laws.{Served, engine_served, engine_refused}
-use Rattle.calls.specs.Answers.{Call, Made, engine_cycle, bus_cycle, packed_cycle, engine_opening, bus_opening, packed_opening, cycle, image_read, image_write, snapshot_read, snapshot_write, ran, unwriting, writing, made, HeadAfter, GrantsCounted, left_asking, MorePending, RefusedAsGiven, Placed, PlaceZero, AdderAnswers}
+use Rattle.backlog.specs.Calls.{arrived, requests}
+use Rattle.backlog.specs.Calls.Laws.{backlog_served, backlog_refused}
+use Rattle.calls.specs.Answers.{Call, Made, engine_cycle, bus_cycle, packed_cycle, backlog_cycle, engine_opening, bus_opening, packed_opening, cycle, image_read, image_write, snapshot_read, snapshot_write, ran, unwriting, writing, made, HeadAfter, GrantsCounted, left_asking, MorePending, RefusedAsGiven, Placed, PlaceZero, AdderAnswers}
 
 -- how many bytes are 1
 abbrev ones : List ℕ → ℕ
@@ -148,6 +150,14 @@ module _ (s : State) (requests grants : List ℕ) where
       come_to (ran (packed_cycle s requests grants)) (after s wires) (λ z. counted s (ran (packed_cycle s requests grants)) wires refl refl (as_scan z))
       (λ n. let kept = packed_kept n in (kept.0, rw kept.1, kept.2))
 
+-- the backlog: what it serves, its engine serves on the requests that the numbers make
+asked_backlog : (e : Engine) (s : State) (arrivals waiting grants nodes : List ℕ) → Asked (ran (backlog_cycle e s arrivals waiting grants nodes))
+asked_backlog e s arrivals waiting grants nodes =
+    let wires = requests (arrived waiting arrivals) in
+    come_to (ran (backlog_cycle e s arrivals waiting grants nodes)) (after s wires)
+    (λ z. counted s (ran (backlog_cycle e s arrivals waiting grants nodes)) wires refl refl (backlog_served e s arrivals waiting grants nodes z))
+    (λ n. let kept = backlog_refused e s arrivals waiting grants nodes n in (kept.0, rw (kept.1, kept.2, kept.3), kept.4))
+
 -- every call
 asked : (c : Call) → Asked (made c)
 asked (engine_opening e n m h) = asked_unwriting _ _ _
@@ -156,6 +166,7 @@ asked (packed_opening n m h) = asked_unwriting _ _ _
 asked (cycle (engine_cycle e s requests grants nodes)) = asked_engine e s requests grants nodes
 asked (cycle (bus_cycle s requests grants byte)) = asked_bus s requests grants byte
 asked (cycle (packed_cycle s requests grants)) = asked_packed s requests grants
+asked (cycle (backlog_cycle e s arrivals waiting grants nodes)) = asked_backlog e s arrivals waiting grants nodes
 asked (image_read s bytes) = asked_unwriting _ _ _
 asked (image_write s former) = asked_writing _ _ _ _ _
 asked (snapshot_read bytes) = asked_unwriting _ _ _
@@ -186,29 +197,31 @@ as_given r (asked_refused refusal e same) n = (ap (λ (a : Answer). Answers.coun
 pub refused_as_given : RefusedAsGiven
 refused_as_given c n = as_given (made c) (asked c) n
 
--- a refusal's place is 0 except for 8, 10 and 14
+-- a refusal's place is 0 except for 8, 10, 14 and 16
 refusal_placed : (refusal : Refusal) → Placed (Refusals.number refusal) (Refusals.place refusal)
-refusal_placed Width eight ten fourteen = refl
-refusal_placed TreeWidth eight ten fourteen = refl
-refusal_placed Picks eight ten fourteen = refl
-refusal_placed HeadRange eight ten fourteen = refl
-refusal_placed ReadLength eight ten fourteen = refl
-refusal_placed WriteLength eight ten fourteen = refl
-refusal_placed NodesLength eight ten fourteen = refl
-refusal_placed (NotABit p) eight ten fourteen = absurd (eight refl)
-refusal_placed Acknowledge eight ten fourteen = refl
-refusal_placed (SecondOne p) eight ten fourteen = absurd (ten refl)
-refusal_placed FirstLine eight ten fourteen = refl
-refusal_placed InputLength eight ten fourteen = refl
-refusal_placed Code eight ten fourteen = refl
-refusal_placed (UnusedBit p) eight ten fourteen = absurd (fourteen refl)
+refusal_placed Width eight ten fourteen sixteen = refl
+refusal_placed TreeWidth eight ten fourteen sixteen = refl
+refusal_placed Picks eight ten fourteen sixteen = refl
+refusal_placed HeadRange eight ten fourteen sixteen = refl
+refusal_placed ReadLength eight ten fourteen sixteen = refl
+refusal_placed WriteLength eight ten fourteen sixteen = refl
+refusal_placed NodesLength eight ten fourteen sixteen = refl
+refusal_placed (NotABit p) eight ten fourteen sixteen = absurd (eight refl)
+refusal_placed Acknowledge eight ten fourteen sixteen = refl
+refusal_placed (SecondOne p) eight ten fourteen sixteen = absurd (ten refl)
+refusal_placed FirstLine eight ten fourteen sixteen = refl
+refusal_placed InputLength eight ten fourteen sixteen = refl
+refusal_placed Code eight ten fourteen sixteen = refl
+refusal_placed (UnusedBit p) eight ten fourteen sixteen = absurd (fourteen refl)
+refusal_placed WaitingLength eight ten fourteen sixteen = refl
+refusal_placed (Overflow p) eight ten fourteen sixteen = absurd (sixteen refl)
 
 placed : (a : Answer) → Placed (number a) (place a)
 placed a = outcome_placed a.outcome
   where
     outcome_placed : (o : Result ℕ Refusal) → Placed (number_of o) (place_of o)
-    outcome_placed (Ok k) eight ten fourteen = refl
-    outcome_placed (Err refusal) eight ten fourteen = refusal_placed refusal eight ten fourteen
+    outcome_placed (Ok k) eight ten fourteen sixteen = refl
+    outcome_placed (Err refusal) eight ten fourteen sixteen = refusal_placed refusal eight ten fourteen sixteen
 
 pub place_zero : PlaceZero
 place_zero c = placed (made c).answer
@@ -230,6 +243,8 @@ head_after (bus_cycle s requests grants byte) z =
       ap (λ (a : Answer). a.state) r.answers,
     )
 head_after (packed_cycle s requests grants) z = rule_head s (unpack s.width requests) _ _ (as_scan s requests grants z)
+head_after (backlog_cycle e s arrivals waiting grants nodes) z =
+    rule_head s (requests (arrived waiting arrivals)) _ _ (backlog_served e s arrivals waiting grants nodes z)
 
 -- the adder by what it asks: 3 and 13
 adder_says : (picks codes : Bool) (sum : Sum)

@@ -18,13 +18,16 @@ use Rattle.thermometer.specs.Adder as Adder
 use Rattle.token_bus.specs.Calls as Bus
 use Rattle.engines.specs.declared.Engine.{Engine}
 use Rattle.engines.specs.Calls as Engines
+use Rattle.backlog.specs.Calls as Backlog
 
 -- a cycle: a state, the requests, and the bytes that the grant buffer holds before. An engine is lent a node buffer too, which
--- only the tree looks at; the bus gets an acknowledge byte; the packed scan's two buffers are packed
+-- only the tree looks at; the bus gets an acknowledge byte; the packed scan's two buffers are packed; the backlog gets arrivals and
+-- waiting numbers in place of requests
 pub data Cycle : Type 0 where
   engine_cycle : Engine → State → List ℕ → List ℕ → List ℕ → Cycle
   bus_cycle : State → List ℕ → List ℕ → ℕ → Cycle
   packed_cycle : State → List ℕ → List ℕ → Cycle
+  backlog_cycle : Engine → State → List ℕ → List ℕ → List ℕ → List ℕ → Cycle
 
 -- a call: an opening takes N, m and a head; reading takes bytes, and writing those that the buffer holds before
 pub data Call : Type 0 where
@@ -73,6 +76,16 @@ ran (packed_cycle s requests grants) =
       lent = grants ∷ [];
       left = o.written ∷ [];
     }
+ran (backlog_cycle e s arrivals waiting grants nodes) =
+    let o = Backlog.cycle e s arrivals waiting grants nodes in
+    record {
+      answer = o.answer;
+      given = s;
+      requests = Backlog.requests (Backlog.arrived waiting arrivals);
+      grants = o.grants;
+      lent = waiting ∷ grants ∷ nodes ∷ [];
+      left = o.waiting ∷ o.grants ∷ o.nodes ∷ [];
+    }
 
 -- a call that writes no buffer
 abbrev pub unwriting : Answer → State → Made
@@ -118,9 +131,9 @@ RefusedAsGiven =
     (c : Call) → let r = made c in
     (number r.answer ≡ 0 → ⊥) → (Answers.count r.answer ≡ 0) × (r.answer.state ≡ r.given) × (r.left ≡ r.lent)
 
--- "a place (0 except for 8 and 10)", and 02, N2: "14, with the byte's place"
+-- "a place (0 except for 8 and 10)"; 02, N2: "14, with the byte's place"; 02, N6: "16, with the lowest such station"
 abbrev pub Placed : ℕ → ℕ → Type 0
-Placed number place = (number ≡ 8 → ⊥) → (number ≡ 10 → ⊥) → (number ≡ 14 → ⊥) → place ≡ 0
+Placed number place = (number ≡ 8 → ⊥) → (number ≡ 10 → ⊥) → (number ≡ 14 → ⊥) → (number ≡ 16 → ⊥) → place ≡ 0
 
 abbrev pub PlaceZero : Type 0
 PlaceZero = (c : Call) → let r = made c in Placed (number r.answer) (place r.answer)

@@ -5,7 +5,7 @@ use Rattle.rules.specs.Head.{Head}
 use Rattle.arbiter.specs.declared.Answer.{Answer}
 use Rattle.arbiter.specs.declared.State.{State}
 use Rattle.arbiter.specs.Questions as Questions
-use Rattle.arbiter.specs.Questions.{Verdict}
+use Rattle.arbiter.specs.Questions.{Verdict, passed}
 use Rattle.arbiter.specs.Answers as Answers
 use Rattle.arbiter.specs.Cycle as RoundRobin
 use Rattle.tree.specs.Calls as Tree
@@ -20,6 +20,13 @@ questions Scan n m h = Questions.state n m h
 questions Tree n m h = Tree.state n m h
 questions Thermometer n m h = Questions.state n m h
 questions KoggeStone n m h = Questions.state n m h
+
+-- what it asks about a node buffer of this length: the tree 7, the others nothing
+abbrev pub nodes_question : Engine → ℕ → ℕ → Verdict
+nodes_question Scan n size = passed
+nodes_question Tree n size = Questions.nodes_length n size
+nodes_question Thermometer n size = passed
+nodes_question KoggeStone n size = passed
 
 -- its opening
 abbrev pub opening : Engine → ℕ → ℕ → Head → Answer

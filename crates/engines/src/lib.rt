@@ -5,12 +5,14 @@ ghost use Rattle.std.specs.Prelude.{◌≡◌};
 ghost use Rattle.engines.specs.Calls as Calls;
 
 use arbiter::engine::{Arbiter, RoundRobin};
+use arbiter::question::Verdict;
 use arbiter::{Answer, State};
 use kogge_stone::KoggeStone;
 use rules::Head;
 use scan::Scan;
 use thermometer::Thermometer;
 use tree::Tree;
+use tree::question::nodes_length;
 
 // The engines that grant by the round-robin rule.
 #[derive(Clone, Copy, Debug, PartialEq, Eq)]
@@ -22,6 +24,28 @@ pub enum Engine {
 }
 
 impl Engine {
+    // The questions about a state: what the engine's own opening asks, 1, 3 and 4, the tree 2 after 1.
+    pub fn ask(self, width: usize, picks: usize, head: Head) -> Verdict
+        ensures { result ≡ Calls.questions self width picks head }
+    {
+        match self {
+            Engine::Scan => Scan::ask(width, picks, head),
+            Engine::Tree => Tree::ask(width, picks, head),
+            Engine::Thermometer => Thermometer::ask(width, picks, head),
+            Engine::KoggeStone => KoggeStone::ask(width, picks, head),
+        }
+    }
+
+    // The question about a node buffer of this length: the tree asks 7, the others nothing.
+    pub fn ask_nodes(self, width: usize, length: usize) -> Verdict
+        ensures { result ≡ Calls.nodes_question self width length }
+    {
+        match self {
+            Engine::Scan | Engine::Thermometer | Engine::KoggeStone => Ok(()),
+            Engine::Tree => nodes_length(width, length),
+        }
+    }
+
     // Opens the engine with this head or none.
     fn opening(self, width: usize, picks: usize, head: Head) -> Answer
         ensures { result ≡ Calls.opening self width picks head }

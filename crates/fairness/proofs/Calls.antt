@@ -1,26 +1,20 @@
 -- What is known of the calls of a list: of a served one, that its grants and its next head are the rule's, so that it is a cycle of
 -- the rule; of a refused one, that it changes nothing.
 -- Assumes nothing.
-use Prim.Native.Nat.{ℕ, ◌≤◌, ◌<◌}
-use mathlib.Core.Path.{◌≡◌, refl, sym, ap}
+use Prim.Native.Nat.{ℕ}
+use mathlib.Core.Path.{◌≡◌, refl, ap}
 use mathlib.Core.Bool.{Bool, true, false, cond}
 use mathlib.Core.List.{List, [], ◌∷◌, map}
-use native.Mathlib.Omega.{arith}
-use lib.Dec.{ltb, eqb}
-use lib.ListN.{get_or, get_or-eq_default}
-use borrow.Author.Tests.{ltb-true, ltb-false, eqb-true, eqb-false}
+use lib.Dec.{eqb}
+use borrow.Author.Tests.{eqb-true, eqb-false}
 use Rattle.rules.specs.Head.{Head}
 use Rattle.std.specs.Prelude.{Some}
-use Rattle.rules.specs.Lists.{member}
-use Rattle.rules.specs.Lists.Laws as Lists
-use Rattle.rules.specs.RoundRobin as Rule
 use Rattle.rules.specs.RoundRobin.{start}
-use Rattle.rules.proofs.RoundRobin.Laws as Laws
 use Rattle.rules.specs.Bus as BusRule
 use Rattle.arbiter.specs.declared.Answer.{Answer}
 use Rattle.arbiter.specs.declared.State.{State}
 use Rattle.arbiter.specs.Answers.{Outcome, moved, number}
-use Rattle.engines.specs.Calls.Laws.{Served, engine_served, engine_refused}
+use Rattle.engines.specs.Calls.Laws.{Served, rule_grants, engine_served, engine_refused}
 use Rattle.token_bus.specs.Calls.Laws as BusLaws
 use Rattle.fairness.specs.Cycles as Cycles
 use Rattle.fairness.specs.Cycles.{Ruled, next_head, Chain}
@@ -28,7 +22,7 @@ use Rattle.fairness.proofs.Cycles.{Follows}
 use Rattle.fairness.specs.Waiting.{By, Call, Made, cycle, bus_cycle, run, served, asks, granted, acknowledged}
 
 -- one more is kept, or is not
-kept : {C : Type 0} (right : Head → C → Type 0) (next : Head → C → Head) (h : Head) (c : C) (cs : List C) (keep : Bool)
+pub kept : {H C : Type 0} (right : H → C → Type 0) (next : H → C → H) (h : H) (c : C) (cs : List C) (keep : Bool)
     → (keep ≡ true → right h c × Chain right next (next h c) cs)
     → (keep ≡ false → Chain right next h cs)
     → Chain right next h (cond keep (c ∷ cs) cs)
@@ -80,23 +74,12 @@ cycles s calls =
     s.head
     calls
 
--- the grant buffer holds 1 for those that are granted alone
-marked : (n m : ℕ) (h : Head) (asks : ℕ → Bool) (w : ℕ) → start h < n
-    → eqb (get_or (Rule.grants n m h asks) w 0) 1 ≡ member w (Rule.granted n m h asks)
-marked n m h asks w head =
-    Lists.split (ltb w n)
-    (λ t. rw (Laws.grants_member n m h asks w (ltb-true w n t)) (Lists.bit_one _))
-    (λ f.
-    let out : n ≤ w = omega (arith, ltb-false w n f) in
-    rw (get_or-eq_default (Rule.grants n m h asks) 0 {n = w} (omega (arith, Laws.grants_length n m h asks)))
-    (sym (Laws.granted_outside n m h asks w (omega arith) out)))
-
--- so each is a cycle by the rule
+-- each is a cycle by the rule
 pub read_ruled : (s : State) (h : Head) (c : Made By) → Right s h c → Ruled s.width h (read s c)
 read_ruled s h c r = record {
   some = r.allows.picked;
   head = r.allows.station;
-  granted = λ w. rw r.granted (marked s.width s.picks h (λ v. asks v c) w r.allows.station);
+  granted = rule_grants r;
 }
 
 -- and they follow one another by the rule

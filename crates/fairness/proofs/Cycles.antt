@@ -28,17 +28,17 @@ abbrev pub WaitingCycles : Type 0
 WaitingCycles = (n : ℕ) (h : Head) (w : ℕ) (cs : List Cycle) → w < n → Follows n h cs → Waits w cs → BoundedPicks n cs
 
 -- some cycles of a chain, whatever stands before them and after them
-module _ {C : Type 0} (right : Head → C → Type 0) (next : Head → C → Head) where
-  stopped : (cs rest : List C) (h : Head) → Chain right next h (cs ++ rest) → Chain right next h cs
+module _ {H C : Type 0} (right : H → C → Type 0) (next : H → C → H) where
+  stopped : (cs rest : List C) (h : H) → Chain right next h (cs ++ rest) → Chain right next h cs
   stopped [] rest h chain = tt
   stopped (c ∷ cs) rest h chain = (chain.0, stopped cs rest (next h c) chain.1)
 
-  -- a chain of which nothing is right for the first head is empty
-  pub chain_empty : (h : Head) → ((c : C) → right h c → ⊥) → (cs : List C) → Chain right next h cs → cs ≡ []
+  -- a chain of which nothing is right for the first h is empty
+  pub chain_empty : (h : H) → ((c : C) → right h c → ⊥) → (cs : List C) → Chain right next h cs → cs ≡ []
   chain_empty h none [] chain = refl
   chain_empty h none (c ∷ cs) chain = absurd (none c chain.0)
 
-  pub resumed : (past cs rest : List C) (h : Head) → Chain right next h (past ++ (cs ++ rest)) → (k : Head) × Chain right next k cs
+  pub resumed : (past cs rest : List C) (h : H) → Chain right next h (past ++ (cs ++ rest)) → (k : H) × Chain right next k cs
   resumed [] cs rest h chain = (h, stopped cs rest h chain)
   resumed (c ∷ past) cs rest h chain = resumed past cs rest (next h c) chain.1
 

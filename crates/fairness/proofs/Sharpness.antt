@@ -26,11 +26,11 @@ use Rattle.arbiter.specs.Answers.{Outcome, made, moved, number}
 use Rattle.arbiter.specs.Answers.Laws.{opened_passed}
 use Rattle.engines.specs.declared.Engine.{Engine}
 use Rattle.engines.specs.declared.Engine.TheVariants.{Scan}
-use Rattle.engines.specs.Calls.Laws.{engine_served, engine_serves, opens_allowed}
+use Rattle.engines.specs.Calls.Laws.{engine_served, engine_serves, nodes_fit, opens_allowed}
 use Rattle.token_bus.specs.Calls as BusCalls
 use Rattle.token_bus.specs.Calls.Laws as BusCallLaws
 use Rattle.fairness.specs.Waiting as Waiting
-use Rattle.fairness.specs.Waiting.{By, Call, Made, cycle, bus_cycle, run, served, asks, Each, Serves, Wait, AsksUntilGranted, GrantedWithin, BusServes, acknowledged, GrantedAcknowledged}
+use Rattle.fairness.specs.Waiting.{By, Call, Made, cycle, bus_cycle, run, served, asks, by_engines, Each, Serves, Wait, AsksUntilGranted, GrantedWithin, BusServes, acknowledged, GrantedAcknowledged}
 use Rattle.fairness.proofs.Cycles.{all_front, all_nearer, bus_nearer}
 use Rattle.fairness.specs.Cycles.{Ruled}
 use Rattle.fairness.proofs.Calls.{read, read_ruled, BusRight}
@@ -87,11 +87,11 @@ last_station n h l =
 
 -- the same call again and again: `next` is the head after it
 module _ {How : Type 0} (leaves : How → State → List ℕ → List ℕ → Outcome) (s : State) (c : Call How) (next : Head → Head) where
-  abbrev once : Head → Made How
+  abbrev pub once : Head → Made How
   once h = record { call = c; left = leaves c.how (moved s h) c.requests c.grants }
 
   -- k of them, from head h
-  abbrev repeated : Head → ℕ → List (Made How)
+  abbrev pub repeated : Head → ℕ → List (Made How)
   repeated h zero = []
   repeated h (suc k) = once h ∷ repeated (next h) k
 
@@ -136,29 +136,30 @@ module _ {How : Type 0} (leaves : How → State → List ℕ → List ℕ → Ou
 
 -- the engines of the rule: one of them that serves the state
 module _ (s : State) (e : Engine) (opens : Serves e s) where
-  abbrev call : Call By
+  abbrev pub call : Call By
   call = record {
     how = record { engine = e; nodes = replicate (2 * s.width) 0 };
     requests = ones s.width;
     grants = replicate s.width 0;
   }
 
-  abbrev good : Head → Type 0
+  abbrev pub good : Head → Type 0
   good h = start h < s.width
 
-  abbrev after : Head → Head
+  abbrev pub after : Head → Head
   after h = next s.width s.picks h (everyone s.width)
 
-  first_good : good s.head
+  pub first_good : good s.head
   first_good = (opens_allowed e s.width s.picks s.head opens).station
 
-  call_serves : (h : Head) → good h → let o = cycle call.how (moved s h) call.requests call.grants in
+  pub call_serves : (h : Head) → good h → let o = cycle call.how (moved s h) call.requests call.grants in
       (number o.answer ≡ 0) × (o.answer.state ≡ moved s (after h)) × good (after h)
   call_serves h g =
       let n = s.width in
       let z =
       engine_serves (moved s h) s.head call.requests call.grants call.how.nodes g
-      (length-replicate {A = ℕ} n 1) (length-replicate {A = ℕ} n 0) (length-replicate {A = ℕ} (2 * n) 0) (ones_bits n) e opens in
+      (length-replicate {A = ℕ} n 1) (length-replicate {A = ℕ} n 0) (ones_bits n) e opens
+      (nodes_fit e n (length call.how.nodes) (length-replicate {A = ℕ} (2 * n) 0)) in
       let r = engine_served e (moved s h) call.requests call.grants call.how.nodes z in
       let k = Laws.next_head n s.picks h (everyone n) g in (
         z,
@@ -173,7 +174,7 @@ module _ (s : State) (e : Engine) (opens : Serves e s) where
       (engine_served e (moved s h) call.requests call.grants call.how.nodes (call_serves h g).0)
 
   -- what k such calls leave
-  abbrev waits : ℕ → List (Made By)
+  abbrev pub waits : ℕ → List (Made By)
   waits k = repeated cycle s call after s.head k
 
   -- the station w is passed by, while m others or more stand before it
@@ -197,14 +198,14 @@ module _ (s : State) (e : Engine) (opens : Serves e s) where
     waits_pass : (k : ℕ) → k * s.picks ≤ far s.head → count (Waiting.granted w) (waits k) ≡ 0
     waits_pass k l = repeated_passes cycle s call after good call_serves (Waiting.granted w) s.picks far passes k s.head first_good l
 
-    waits_ask : (k : ℕ) → Each (asks w) (waits k)
+    pub waits_ask : (k : ℕ) → Each (asks w) (waits k)
     waits_ask k = repeated_each cycle s call after (asks w) (λ h. asks_all s.width w station) k s.head
 
   waits_are : (k : ℕ) → served (run cycle s (replicate k call)) ≡ waits k
   waits_are k = all_served cycle s call after good call_serves k s.head first_good
 
   -- they are a wait, while k times the picks are fewer than the stations
-  waits_wait : (k : ℕ) → k * s.picks < s.width → (w : ℕ) × Wait s w (waits k)
+  pub waits_wait : (k : ℕ) → k * s.picks < s.width → (w : ℕ) × Wait by_engines s w (waits k)
   waits_wait k l =
       let r = last_station s.width s.head first_good in (
         r.0,
@@ -218,33 +219,41 @@ module _ (s : State) (e : Engine) (opens : Serves e s) where
         },
       )
 
-  -- so a bound of waits is above k
-  pub longest_wait : (k limit : ℕ) → k * s.picks < s.width
-      → ((w : ℕ) (waiting : List (Made By)) → Wait s w waiting → length waiting < limit)
-      → k < limit
-  longest_wait k limit l claim =
+  -- there are k of them
+  pub waits_length : (k : ℕ) → length (waits k) ≡ k
+  waits_length k = repeated_length cycle s call after k s.head
+
+  -- so not all waits are shorter than k
+  pub longest_wait : (k : ℕ) → k * s.picks < s.width → ((w : ℕ) (waiting : List (Made By)) → Wait by_engines s w waiting → length waiting < k) → ⊥
+  longest_wait k l claim =
       let r = waits_wait k l in
-      omega (arith, claim r.0 (waits k) r.1, repeated_length cycle s call after k s.head)
+      omega (arith, claim r.0 (waits k) r.1, waits_length k)
+
+  -- of k such calls and one more, the first k grant some station never
+  pub waits_longer : (k : ℕ) → k * s.picks < s.width → (w : ℕ) × (w < s.width) × (count (Waiting.granted w) (take k (waits (suc k))) ≡ 0)
+  waits_longer k l =
+      let r = last_station s.width s.head first_good in (
+        r.0,
+        r.1,
+        ap (count (Waiting.granted r.0)) (repeated_take cycle s call after k (suc k) s.head (omega arith)) ∙ waits_pass r.0 r.1 k (omega (arith, r.2)),
+      )
 
   -- in so many cycles a station that keeps asking may not be granted
-  pub no_sooner : (k : ℕ) → k * s.picks < s.width → GrantedWithin s k → ⊥
+  pub no_sooner : (k : ℕ) → k * s.picks < s.width → GrantedWithin by_engines s k → ⊥
   no_sooner k l claim =
-      let r = last_station s.width s.head first_good in
+      let r = waits_longer k l in
       let w = r.0 in
-      let same : take k (waits (suc k)) ≡ waits k = repeated_take cycle s call after k (suc k) s.head (omega arith) in
-      let none = waits_pass w r.1 k (omega (arith, r.2)) in
-      let size = repeated_length cycle s call after (suc k) s.head in
       ⊎_elim
-      (λ some. omega (arith, ap (count (Waiting.granted w)) same, none, some))
-      (λ few. omega (arith, few, size))
+      (λ some. omega (arith, r.2, some))
+      (λ few. omega (arith, few, waits_length (suc k)))
       (claim (replicate (suc k) call) w [] _ _ (waits_are (suc k)) (until w (waits (suc k)) (waits_ask w r.1 (suc k))))
     where
-      until : (w : ℕ) (cs : List (Made By)) → Each (asks w) cs → AsksUntilGranted w cs
+      until : (w : ℕ) (cs : List (Made By)) → Each (asks w) cs → AsksUntilGranted by_engines w cs
       until w [] each = tt
       until w (c ∷ cs) each = (each.0, λ _. until w cs each.1)
 
   -- the first station of the order is granted in the first of them
-  first_granted : count (Waiting.granted (start s.head)) (waits 1) ≡ 1
+  pub first_granted : count (Waiting.granted (start s.head)) (waits 1) ≡ 1
   first_granted =
       let n = s.width in
       let h = s.head in
@@ -257,7 +266,7 @@ module _ (s : State) (e : Engine) (opens : Serves e s) where
       rw is
 
 -- two stations, one pick: one waits while the other is granted
-pub other_once : (times : ℕ) → ((s : State) (w : ℕ) (waiting : List (Made By)) → Wait s w waiting → (v : ℕ) → count (Waiting.granted v) waiting < times)
+pub other_once : (times : ℕ) → ((s : State) (w : ℕ) (waiting : List (Made By)) → Wait by_engines s w waiting → (v : ℕ) → count (Waiting.granted v) waiting < times)
     → 2 ≤ times
 other_once times claim =
     let s = made 2 1 None in

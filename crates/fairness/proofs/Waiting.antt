@@ -1,8 +1,8 @@
 -- The wait rule over every list of calls. By the engines of the rule: the served ones are cycles of the round-robin rule, for which it
 -- is proved in Cycles. On the bus: from the laws of the bus's rule.
 -- Assumes nothing.
-use Prim.Native.Nat.{ℕ, zero, suc, ◌-◌, ◌*◌, ◌≤◌, ◌<◌}
-use mathlib.Core.Path.{◌≡◌, refl, sym, ap, ◌∙◌}
+use Prim.Native.Nat.{ℕ, zero, suc, ◌*◌, ◌≤◌, ◌<◌}
+use mathlib.Core.Path.{◌≡◌, sym, ap, ◌∙◌}
 use mathlib.Core.Bool.{Bool, true, false, ◌&&◌, true≢false}
 use mathlib.Core.List.{List, [], ◌∷◌, ◌++◌, map}
 use mathlib.Core.Logic.{inl, inr}
@@ -27,9 +27,10 @@ use Rattle.engines.specs.declared.Engine.TheVariants.{Scan}
 use Rattle.engines.specs.Calls.Laws.{engine_opens, opens_allowed}
 use Rattle.token_bus.specs.Calls.Laws as BusCalls
 use Rattle.fairness.specs.Cycles.{Chain, Waits, total}
-use Rattle.fairness.specs.Waiting.{By, Made, cycle, bus_cycle, run, served, asks, granted, Each, OneLeast, Serves, UnservedRefused, Wait, ceiling, BoundedWaiting, NotTwice, AsksUntilGranted, GrantedWithin, GrantedInTime, BusServes, BusUnservedRefused, acknowledged, GrantedAcknowledged, BusBoundedWaiting}
+use Rattle.fairness.specs.Waiting.{By, Made, cycle, bus_cycle, run, served, asks, granted, by_engines, Each, OneLeast, Serves, UnservedRefused, Wait, ceiling, BoundedWaiting, NotTwice, AsksUntilGranted, GrantedWithin, GrantedInTime, BusServes, BusUnservedRefused, acknowledged, GrantedAcknowledged, BusBoundedWaiting}
 use Rattle.fairness.proofs.Cycles.{chain_empty, resumed, waiting_cycles, bus_nearer}
 use Rattle.fairness.proofs.Calls.{Right, read, head_after, cycles, read_follows, BusRight, next_token, bus_cycles}
+use Rattle.fairness.proofs.Readings.{count_map}
 use Rattle.fairness.proofs.Sharpness.{longest_wait, no_sooner, other_once, bus_no_sooner}
 
 -- whoever asks is a station: its byte is one of the n
@@ -59,11 +60,6 @@ module _ (s : State) where
   read_total [] = omega arith
   read_total (c ∷ cs) = omega (arith, read_total cs)
 
-  -- and grant the same stations
-  read_grants : (v : ℕ) (cs : List (Made By)) → count (λ c. c.grants v) (map (read s) cs) ≡ count (granted v) cs
-  read_grants v [] = refl
-  read_grants v (c ∷ cs) = omega (arith, read_grants v cs)
-
 -- k cycles of m each that are fewer than n in all are fewer than n / m rounded up
 below_ceiling : (n m k : ℕ) → 0 < m → k * m < n → k < ceiling n m
 below_ceiling n m k h l = (le-div_iff_mul-le h).1 (omega arith)
@@ -84,11 +80,11 @@ bounded s w h c cs chain each ungranted =
     (read_waits s w (c ∷ cs) each ungranted) in
     record {
       short = below_ceiling s.width s.picks (length (c ∷ cs)) r.allows.picked (omega (arith, b.short, read_total s (c ∷ cs)));
-      once = λ v. omega (arith, b.once v, read_grants s v (c ∷ cs));
+      once = λ v. omega (arith, b.once v, count_map (read s) (λ q. q.grants v) (c ∷ cs));
     }
 
 -- so every wait is bounded
-wait_bounded : (s : State) (w : ℕ) (c : Made By) (cs : List (Made By)) → Wait s w (c ∷ cs) → Bounded s.width s.picks (c ∷ cs)
+wait_bounded : (s : State) (w : ℕ) (c : Made By) (cs : List (Made By)) → Wait by_engines s w (c ∷ cs) → Bounded s.width s.picks (c ∷ cs)
 wait_bounded s w c cs wait =
     let r = resumed (Right s) (head_after s) wait.past (c ∷ cs) wait.rest s.head (rw wait.are at (cycles s wait.calls)) in
     bounded s w r.0 c cs r.1 wait.asking wait.ungranted
@@ -102,48 +98,44 @@ module _ (s : State) (e : Engine) (opens : Serves e s) where
   ceiling_some : 0 < ceiling s.width s.picks
   ceiling_some = below_ceiling s.width s.picks 0 allows.picked (omega (arith, allows.some))
 
-  short : (w : ℕ) (waiting : List (Made By)) → Wait s w waiting → length waiting < ceiling s.width s.picks
+  short : (w : ℕ) (waiting : List (Made By)) → Wait by_engines s w waiting → length waiting < ceiling s.width s.picks
   short w [] wait = ceiling_some
   short w (c ∷ cs) wait = (wait_bounded s w c cs wait).short
 
-  -- fewer cycles than N/m rounded up make fewer than N picks
-  within_ceiling : (j : ℕ) → j < ceiling s.width s.picks → j * s.picks < s.width
-  within_ceiling j l =
+  -- cycles that make no fewer than N picks are N/m rounded up or more
+  pub least_ceiling : (limit : ℕ) → (limit * s.picks < s.width → ⊥) → ceiling s.width s.picks ≤ limit
+  least_ceiling limit enough =
       let some = allows.picked in
-      omega (arith, some, (le-div_iff_mul-le {x = suc j} some).0 l)
+      Lists.split (ltb limit (ceiling s.width s.picks))
+      (λ t. absurd (enough (omega (arith, some, (le-div_iff_mul-le {x = suc limit} some).0 (ltb-true limit _ t)))))
+      (λ f. omega (arith, ltb-false limit (ceiling s.width s.picks) f))
 
-  -- a wait of one cycle less
-  shorter : (limit : ℕ) → ((w : ℕ) (waiting : List (Made By)) → Wait s w waiting → length waiting < limit)
-      → ceiling s.width s.picks ≤ limit
-  shorter limit claim =
-      let j = ceiling s.width s.picks - 1 in
-      omega (arith, ceiling_some, longest_wait s e opens j limit (within_ceiling j (omega (arith, ceiling_some))) claim)
-
-pub bounded_waiting : BoundedWaiting
+pub bounded_waiting : BoundedWaiting by_engines
 bounded_waiting s e opens = record {
   holds = λ w waiting wait. omega (arith, short s e opens w waiting wait);
-  least = λ limit claim. omega (arith, shorter s e opens limit (λ w waiting wait. omega (arith, claim w waiting wait)));
+  least = λ limit claim.
+      omega (arith, least_ceiling s e opens limit (λ l. longest_wait s e opens limit l (λ w waiting wait. omega (arith, claim w waiting wait))));
 }
 
-pub not_twice : NotTwice
+pub not_twice : NotTwice by_engines
 not_twice = record {
   holds = λ s w waiting wait v. omega (arith, once s w waiting wait v);
   least = λ times claim. omega (arith, other_once times (λ s w waiting wait v. omega (arith, claim s w waiting wait v)));
 }
   where
-    once : (s : State) (w : ℕ) (waiting : List (Made By)) → Wait s w waiting → (v : ℕ) → count (granted v) waiting < 2
+    once : (s : State) (w : ℕ) (waiting : List (Made By)) → Wait by_engines s w waiting → (v : ℕ) → count (granted v) waiting < 2
     once s w [] wait v = omega arith
     once s w (c ∷ cs) wait v = (wait_bounded s w c cs wait).once v
 
 pub one_least : OneLeast
 one_least claim j k a b = omega (arith, a.least k b.holds, b.least j a.holds)
 
-pub unserved_refused : UnservedRefused
+pub unserved_refused : UnservedRefused by_engines
 unserved_refused s calls none =
     chain_empty (Right s) (head_after s) s.head (λ c r. none Scan (engine_opens s r.allows)) (served (run cycle s calls)) (cycles s calls)
 
 -- a station that asks until it is granted, and is not granted, asks in every cycle
-asks_each : (w k : ℕ) (cs : List (Made By)) → AsksUntilGranted w cs → count (granted w) (take k cs) ≡ 0 → Each (asks w) (take k cs)
+asks_each : (w k : ℕ) (cs : List (Made By)) → AsksUntilGranted by_engines w cs → count (granted w) (take k cs) ≡ 0 → Each (asks w) (take k cs)
 asks_each w zero cs until none = tt
 asks_each w (suc k) [] until none = tt
 asks_each w (suc k) (c ∷ cs) until none =
@@ -153,14 +145,14 @@ asks_each w (suc k) (c ∷ cs) until none =
 
 -- it is granted within N/m rounded up of them or more, unless there are fewer
 module _ (s : State) (e : Engine) (opens : Serves e s) where
-  in_time : (limit : ℕ) → ceiling s.width s.picks ≤ limit → GrantedWithin s limit
+  pub in_time : (limit : ℕ) → ceiling s.width s.picks ≤ limit → GrantedWithin by_engines s limit
   in_time limit enough calls w past first more are until =
       let within = take limit (first ∷ more) in
       Lists.split (ltb 0 (count (granted w) within))
       (λ t. inl (ltb-true 0 _ t))
       (λ f.
       let none : count (granted w) within ≡ 0 = omega (arith, ltb-false 0 (count (granted w) within) f) in
-      let wait : Wait s w within =
+      let wait : Wait by_engines s w within =
       record {
         calls = calls;
         past = past;
@@ -171,16 +163,10 @@ module _ (s : State) (e : Engine) (opens : Serves e s) where
       } in
       inr (omega (arith, short s e opens w within wait, length-take limit (first ∷ more))))
 
-  not_sooner : (limit : ℕ) → GrantedWithin s limit → ceiling s.width s.picks ≤ limit
-  not_sooner limit claim =
-      Lists.split (ltb limit (ceiling s.width s.picks))
-      (λ t. absurd (no_sooner s e opens limit (within_ceiling s e opens limit (ltb-true limit _ t)) claim))
-      (λ f. omega (arith, ltb-false limit (ceiling s.width s.picks) f))
-
-pub granted_in_time : GrantedInTime
+pub granted_in_time : GrantedInTime by_engines
 granted_in_time s e opens = record {
   holds = in_time s e opens _ (omega arith);
-  least = λ limit claim. omega (arith, not_sooner s e opens limit claim);
+  least = λ limit claim. omega (arith, least_ceiling s e opens limit (λ l. no_sooner s e opens limit l claim));
 }
 
 -- a list of bus calls from the state s

@@ -23,8 +23,8 @@ pub record Ruled (n : ℕ) (h : Head) (c : Cycle) : Type 0 where
 abbrev pub next_head : ℕ → Head → Cycle → Head
 next_head n h c = next n c.picks h c.asks
 
--- a chain from head h: each is right for the head that it gets, and hands the next head on
-abbrev pub Chain : {C : Type 0} → (Head → C → Type 0) → (Head → C → Head) → Head → List C → Type 0
+-- a chain from h, a head or whatever else is handed on: each is right for the one that it gets, and hands the next one on
+abbrev pub Chain : {H C : Type 0} → (H → C → Type 0) → (H → C → H) → H → List C → Type 0
 Chain right next h [] = Unit {0}
 Chain right next h (c ∷ cs) = right h c × Chain right next (next h c) cs
 

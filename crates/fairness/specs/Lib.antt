@@ -1,3 +1,4 @@
 pub mod Cycles
 pub mod Waiting
 pub mod Packed
+pub mod Backlog

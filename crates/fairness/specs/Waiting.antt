@@ -55,6 +55,26 @@ asks w c = eqb (get_or c.call.requests w 0) 1
 abbrev pub granted : {How : Type 0} → ℕ → Made How → Bool
 granted w c = eqb (get_or c.left.written w 0) 1
 
+-- A kind of list, of which the wait rule is said: what its calls are given, and what one of them is once it was made; the served ones
+-- of a list from a state; and whether station w asks in one of these, and whether it is granted
+pub record Kind : Type 1 where
+  pub Given : Type 0
+  pub Done : Type 0
+  pub served_of : State → List Given → List Done
+  pub asks_in : ℕ → Done → Bool
+  pub granted_in : ℕ → Done → Bool
+
+-- the lists of calls by the engines: "Scan, tree, thermometer arbiter", and N1's. `UnservedRefused`, `BoundedWaiting`, `NotTwice` and
+-- `GrantedInTime`, below, are promised of them
+abbrev pub by_engines : Kind
+by_engines = record {
+  Given = Call By;
+  Done = Made By;
+  served_of = λ s calls. served (run cycle s calls);
+  asks_in = asks;
+  granted_in = granted;
+}
+
 -- all of the list pass the test
 abbrev pub Each : {A : Type 0} → (A → Bool) → List A → Type 0
 Each p [] = Unit {0}
@@ -74,51 +94,51 @@ abbrev pub Serves : Engine → State → Type 0
 Serves e s = number (Engines.opening e s.width s.picks s.head) ≡ 0
 
 -- "A state that no engine serves gives only refusals, and nothing is then counted"
-abbrev pub UnservedRefused : Type 0
-UnservedRefused = (s : State) (calls : List (Call By)) → ((e : Engine) → Serves e s → ⊥) → served (run cycle s calls) ≡ []
+abbrev pub UnservedRefused : Kind → Type 0
+UnservedRefused k = (s : State) (calls : List k.Given) → ((e : Engine) → Serves e s → ⊥) → k.served_of s calls ≡ []
 
 -- A wait of station w from the state s: "any served cycles that follow one another, in all of which a station asks and in none of
 -- which it is granted", whatever was served before them and after them
-pub record Wait (s : State) (w : ℕ) (waiting : List (Made By)) : Type 0 where
-  pub calls : List (Call By)
-  pub past : List (Made By)
-  pub rest : List (Made By)
-  pub are : served (run cycle s calls) ≡ past ++ (waiting ++ rest)
-  pub asking : Each (asks w) waiting
-  pub ungranted : count (granted w) waiting ≡ 0
+pub record Wait (k : Kind) (s : State) (w : ℕ) (waiting : List k.Done) : Type 0 where
+  pub calls : List k.Given
+  pub past : List k.Done
+  pub rest : List k.Done
+  pub are : k.served_of s calls ≡ past ++ (waiting ++ rest)
+  pub asking : Each (k.asks_in w) waiting
+  pub ungranted : count (k.granted_in w) waiting ≡ 0
 
 -- 01's "N/m rounded up"
 abbrev pub ceiling : ℕ → ℕ → ℕ
 ceiling n m = (n + (m - 1)) / m
 
--- Scan, tree and thermometer arbiter: "They are fewer than N/m rounded up", and with no smaller number would that be true
-abbrev pub BoundedWaiting : Type 0
-BoundedWaiting =
+-- "They are fewer than N/m rounded up", and with no smaller number would that be true
+abbrev pub BoundedWaiting : Kind → Type 0
+BoundedWaiting k =
     (s : State) (e : Engine) → Serves e s
-    → Least (λ limit. (w : ℕ) (waiting : List (Made By)) → Wait s w waiting → length waiting < limit) (ceiling s.width s.picks)
+    → Least (λ limit. (w : ℕ) (waiting : List k.Done) → Wait k s w waiting → length waiting < limit) (ceiling s.width s.picks)
 
 -- "and no other station is granted twice in them"; once it may be
-abbrev pub NotTwice : Type 0
-NotTwice =
-    Least (λ times. (s : State) (w : ℕ) (waiting : List (Made By)) → Wait s w waiting → (v : ℕ) → count (granted v) waiting < times) 2
+abbrev pub NotTwice : Kind → Type 0
+NotTwice k =
+    Least (λ times. (s : State) (w : ℕ) (waiting : List k.Done) → Wait k s w waiting → (v : ℕ) → count (k.granted_in v) waiting < times) 2
 
 -- a station asks in each cycle until one grants it
-abbrev pub AsksUntilGranted : ℕ → List (Made By) → Type 0
-AsksUntilGranted w [] = Unit {0}
-AsksUntilGranted w (c ∷ cs) = (asks w c ≡ true) × (granted w c ≡ false → AsksUntilGranted w cs)
+abbrev pub AsksUntilGranted : (k : Kind) → ℕ → List k.Done → Type 0
+AsksUntilGranted k w [] = Unit {0}
+AsksUntilGranted k w (c ∷ cs) = (k.asks_in w c ≡ true) × (k.granted_in w c ≡ false → AsksUntilGranted k w cs)
 
 -- such a station, from any served cycle on, is granted within this many served cycles, the first included, unless the list ends
 -- sooner
-abbrev pub GrantedWithin : State → ℕ → Type 0
-GrantedWithin s limit =
-    (calls : List (Call By)) (w : ℕ) (past : List (Made By)) (first : Made By) (more : List (Made By))
-    → served (run cycle s calls) ≡ past ++ (first ∷ more)
-    → AsksUntilGranted w (first ∷ more)
-    → (0 < count (granted w) (take limit (first ∷ more))) ⊎ (length (first ∷ more) < limit)
+abbrev pub GrantedWithin : Kind → State → ℕ → Type 0
+GrantedWithin k s limit =
+    (calls : List k.Given) (w : ℕ) (past : List k.Done) (first : k.Done) (more : List k.Done)
+    → k.served_of s calls ≡ past ++ (first ∷ more)
+    → AsksUntilGranted k w (first ∷ more)
+    → (0 < count (k.granted_in w) (take limit (first ∷ more))) ⊎ (length (first ∷ more) < limit)
 
 -- What follows for it: N/m rounded up of them are enough, and fewer are not
-abbrev pub GrantedInTime : Type 0
-GrantedInTime = (s : State) (e : Engine) → Serves e s → Least (GrantedWithin s) (ceiling s.width s.picks)
+abbrev pub GrantedInTime : Kind → Type 0
+GrantedInTime k = (s : State) (e : Engine) → Serves e s → Least (GrantedWithin k s) (ceiling s.width s.picks)
 
 -- the bus serves a state
 abbrev pub BusServes : State → Type 0

@@ -4,7 +4,7 @@
 
 mod descent;
 mod nodes;
-mod question;
+pub mod question;
 
 ghost use Rattle.std.specs.Prelude.{◌≡◌, ◌*◌, ◌≤◌, length, replicate, Ok};
 ghost use Rattle.rules.specs.RoundRobin as RoundRobin;

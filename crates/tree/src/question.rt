@@ -16,7 +16,7 @@ fn tree_width(width: usize) -> Verdict
 }
 
 // Question 7: is the node buffer twice as long as there are stations?
-fn nodes_length(width: usize, length: usize) -> Verdict
+pub fn nodes_length(width: usize, length: usize) -> Verdict
     ensures { result ≡ Questions.nodes_length width length }
 {
     question::refuse_unless(

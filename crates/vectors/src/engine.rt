@@ -40,6 +40,14 @@ pub(crate) static ENGINES: [Engine; 6] = [
     Engine::Packed,
 ];
 
+// The dispatcher's four by number, the tree last.
+pub(crate) static DISPATCHED: [engines::Engine; 4] = [
+    engines::Engine::Scan,
+    engines::Engine::Thermometer,
+    engines::Engine::KoggeStone,
+    engines::Engine::Tree,
+];
+
 impl Engine {
     // Whether it serves with such a head: the bus with none does not.
     pub(crate) fn takes(self, head: Option<usize>) -> bool {
@@ -59,6 +67,11 @@ impl Engine {
             Engine::RoundRobin(engines::Engine::Tree) | Engine::Bus | Engine::Packed => 1,
             Engine::RoundRobin(_) => width.min(8),
         }
+    }
+
+    // Whether it takes the width and the picks of a state.
+    pub(crate) fn takes_size(self, s: State) -> bool {
+        self.takes_width(s.width) && s.picks <= self.most_picks(s.width)
     }
 
     // Opens with a state's width and picks, and with its head if it has one.

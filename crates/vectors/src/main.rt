@@ -18,6 +18,9 @@ mod small;
 mod sums;
 mod tables;
 mod texts;
+mod waiting;
+mod waiting_known;
+mod waiting_runs;
 mod walk;
 
 use engine::{Engine, WIDEST};
@@ -33,6 +36,7 @@ fn main(rt: HostRuntime) -> io::Result<()> {
     small_inputs(&rt)?;
     long_runs(&rt)?;
     packed_scan(&rt)?;
+    messages_waiting(&rt)?;
     adder(&rt)?;
     refused(&rt)?;
     converted(&rt)?;
@@ -119,6 +123,43 @@ fn packed_scan(rt: &impl Print) -> io::Result<()> {
     )
 }
 
+// The cycle with messages waiting.
+fn messages_waiting(rt: &impl Print) -> io::Result<()> {
+    numbers(
+        rt,
+        "messages waiting, known cycles",
+        waiting_known::CASES,
+        waiting_known::case,
+    )?;
+    for (name, engine) in [
+        (
+            "messages waiting, scan, every input for widths 1 to 4",
+            engines::Engine::Scan,
+        ),
+        (
+            "messages waiting, tree, every input for widths 2 and 4",
+            engines::Engine::Tree,
+        ),
+        (
+            "messages waiting, thermometer, every input for widths 1 to 4",
+            engines::Engine::Thermometer,
+        ),
+        (
+            "messages waiting, Kogge-Stone, every input for widths 1 to 4",
+            engines::Engine::KoggeStone,
+        ),
+    ] {
+        numbers(rt, name, waiting::CASES, |i| waiting::case(engine, i))?;
+    }
+    let mut run = waiting_runs::Run::new();
+    numbers(
+        rt,
+        "messages waiting, runs on widths 1 to 1024",
+        waiting_runs::CASES,
+        |i| run.case(i),
+    )
+}
+
 // The adder, alone and as the running codes of a cycle.
 fn adder(rt: &impl Print) -> io::Result<()> {
     numbers(
@@ -162,6 +203,7 @@ fn refused(rt: &impl Print) -> io::Result<()> {
             "reading a short snapshot, refusals",
             Call::ReadShortSnapshot,
         ),
+        ("cycle with messages waiting, refusals", Call::Backlog),
     ] {
         numbers(rt, name, refusals::CASES, |i| refusals::case(call, i))?;
     }

@@ -1,7 +1,7 @@
 // A served cycle against the model.
 use crate::engine::{self, Engine, NODES, WIDEST};
 use crate::{compare, packed};
-use arbiter::State;
+use arbiter::{Answer, State};
 
 // What a cycle came to: whether it is as the model says, the state it left, and whether more are pending.
 #[derive(Clone, Copy)]
@@ -21,12 +21,8 @@ pub(crate) fn run(engine: Engine, s: State, requests: &[u8], acknowledge: u8) ->
     let a = engine.cycle(s, requests, grants, nodes, acknowledge);
     let model = of(s, requests);
     let next = next_head(engine, &model, acknowledge);
-    let same = compare::grants(
-        a,
-        model.count(),
-        compare::state(s.width, s.picks, Some(next)),
-        model.more(),
-    ) && same_grants(&model, grants)
+    let same = answers(&model, next, a)
+        && same_grants(&model, grants)
         && (engine != engine::TREE || same_nodes(s, requests, nodes))
         && (engine != Engine::Packed || packed::as_scan(s, requests));
     Cycle {
@@ -46,6 +42,12 @@ pub(crate) fn of(s: State, requests: &[u8]) -> reference::Cycle<'_> {
     }
 }
 
+// Whether a served cycle is answered as the model says, with this next head or token.
+pub(crate) fn answers(model: &reference::Cycle<'_>, next: usize, a: Answer) -> bool {
+    let state = compare::state(model.width, model.picks, Some(next));
+    compare::grants(a, model.count(), state, model.more())
+}
+
 // Where the model leaves the head or the token.
 fn next_head(engine: Engine, model: &reference::Cycle<'_>, acknowledge: u8) -> usize {
     if engine == Engine::Bus {
@@ -55,7 +57,7 @@ fn next_head(engine: Engine, model: &reference::Cycle<'_>, acknowledge: u8) -> u
 }
 
 // Whether the grants are the model's.
-fn same_grants(model: &reference::Cycle<'_>, grants: &[u8]) -> bool {
+pub(crate) fn same_grants(model: &reference::Cycle<'_>, grants: &[u8]) -> bool {
     grants
         .iter()
         .enumerate()

@@ -5,6 +5,7 @@ ghost use Rattle.std.specs.Prelude.{◌<◌, ◌≤◌};
 use crate::engine::{self, ENGINES, Engine};
 use crate::{compare, packed};
 use arbiter::{Answer, State};
+use backlog::Backlog;
 use one_hot::OneHot;
 use packed_scan::PackedScan;
 use snapshot::Snapshot;
@@ -22,6 +23,7 @@ pub enum Call {
     WriteSnapshot,
     Add,
     ReadShortSnapshot,
+    Backlog,
 }
 
 // What is wrong with an input, as the number of the refusal.
@@ -39,28 +41,32 @@ enum Fault {
     SecondOne = 10,
     Code = 13,
     Unused = 14,
+    Waiting = 15,
+    Overflow = 16,
 }
 
 // The faults in the order of the questions.
-static FAULTS: [Fault; 12] = [
+static FAULTS: [Fault; 14] = [
     Fault::Width,
     Fault::TreeWidth,
     Fault::Picks,
     Fault::Head,
     Fault::Read,
     Fault::Write,
+    Fault::Waiting,
     Fault::Nodes,
     Fault::Bit,
     Fault::Acknowledge,
     Fault::SecondOne,
     Fault::Code,
     Fault::Unused,
+    Fault::Overflow,
 ];
 
 impl Fault {
     // The number of its refusal. The numbers are the kinds' own, so the cast is what gives them.
     fn number(self) -> usize
-        ensures { result < 15 }
+        ensures { result < 17 }
     {
         self as usize
     }
@@ -129,7 +135,7 @@ impl Faulty {
         self.value(fault, 0, [first, last(n), n / 2])
     }
 
-    // The first fault, in order of number.
+    // The first fault, in the order of the questions.
     fn first(self) -> Option<Fault> {
         FAULTS.iter().copied().find(|fault| self.has(*fault))
     }
@@ -142,12 +148,14 @@ impl Faulty {
         }
     }
 
-    // The place that is refused in `n` bytes: the first byte that is not a bit, the second 1, or the last byte of packed wires.
+    // The place that is refused in `n` bytes: the first byte that is not a bit, the second 1, the last byte of packed wires, or the
+    // first number that does not fit.
     fn place(self, n: usize) -> usize {
         match self.first() {
             Some(Fault::Bit) => self.spot(Fault::Bit, n, 0),
             Some(Fault::SecondOne) => self.spot(Fault::SecondOne, n, 1),
             Some(Fault::Unused) => last(n),
+            Some(Fault::Overflow) => self.spot(Fault::Overflow, n, 0),
             _ => 0,
         }
     }
@@ -164,17 +172,17 @@ const ROOM: usize = engine::NODES;
 // The byte with which buffers are filled that a refused call must leave alone.
 const KEPT: u8 = 7;
 
-// 3 variants, 32,768 sets of faults, 6 engines. The calls that are no engine's are made with the first of these.
-pub(crate) const CASES: usize = 3 * 32768 * 6;
+// 3 variants, 131,072 sets of faults, 6 engines. The calls that are no engine's are made with the first of these.
+pub(crate) const CASES: usize = 3 * 131072 * 6;
 
 // The case of a number, by a call.
 pub(crate) fn case(call: Call, i: usize) -> Option<bool> {
-    let faults = Faults(i / 3 % 32768);
-    let engine = ENGINES[i / 98304 % 6];
-    if faults == Faults(0) || !faults.is_within(asked(call, engine)) {
+    let faults = Faults(i / 3 % 131072);
+    let engine = ENGINES[i / 393216 % 6];
+    if engine != engine::SCAN && !is_engines(call) {
         return None;
     }
-    if engine != engine::SCAN && !matches!(call, Call::Open | Call::OpenAt | Call::Cycle) {
+    if faults == Faults(0) || !faults.is_within(asked(call, engine)) {
         return None;
     }
     let input = Faulty {
@@ -184,7 +192,16 @@ pub(crate) fn case(call: Call, i: usize) -> Option<bool> {
     Some(refuses(call, engine, input, state(engine, input)))
 }
 
-// The questions that a call by an engine asks. The packed scan's cycle asks 14 in place of 8.
+// Whether a call is an engine's, and made by each of them.
+fn is_engines(call: Call) -> bool {
+    matches!(
+        call,
+        Call::Open | Call::OpenAt | Call::Cycle | Call::Backlog
+    )
+}
+
+// The questions that a call by an engine asks. The packed scan's cycle asks 14 in place of 8. A cycle with messages waiting is
+// asked of the dispatcher's engines alone.
 fn asked(call: Call, engine: Engine) -> Faults {
     let state = Faults::of(&[Fault::Width, Fault::Picks, Fault::Head]);
     let asked = match call {
@@ -201,6 +218,10 @@ fn asked(call: Call, engine: Engine) -> Faults {
             Faults::of(&[Fault::Read, Fault::Bit, Fault::Picks, Fault::Head])
         }
         Call::Add => Faults::of(&[Fault::Picks, Fault::Code]),
+        Call::Backlog if matches!(engine, Engine::Bus | Engine::Packed) => Faults(0),
+        Call::Backlog => {
+            state.with(&[Fault::Read, Fault::Write, Fault::Waiting, Fault::Overflow])
+        }
     };
     asked.with(engine_asks(call, engine))
 }
@@ -211,7 +232,7 @@ fn engine_asks(call: Call, engine: Engine) -> &'static [Fault] {
         (Call::Open | Call::OpenAt, Engine::RoundRobin(engines::Engine::Tree)) => &[
             Fault::TreeWidth,
         ],
-        (Call::Cycle, Engine::RoundRobin(engines::Engine::Tree)) => &[
+        (Call::Cycle | Call::Backlog, Engine::RoundRobin(engines::Engine::Tree)) => &[
             Fault::TreeWidth,
             Fault::Nodes,
         ],
@@ -235,6 +256,7 @@ fn refuses(call: Call, engine: Engine, f: Faulty, s: State) -> bool {
         Call::ReadSnapshot => read_snapshot(f),
         Call::ReadShortSnapshot => read_short(f),
         Call::Add => add(f),
+        Call::Backlog => backlog(engine, f, s, n),
     }
 }
 
@@ -274,6 +296,50 @@ fn cycle(engine: Engine, f: Faulty, s: State, n: usize) -> bool
         f.value(Fault::Acknowledge, 1, [2, 255, 3]),
     );
     f.refused(a, n, s) && grants == [KEPT; ROOM] && nodes == [KEPT; ROOM]
+}
+
+// A cycle with messages waiting, by one of the dispatcher's engines with `n` stations.
+fn backlog(engine: Engine, f: Faulty, s: State, n: usize) -> bool
+    requires { n ≤ 1024 }
+{
+    let Engine::RoundRobin(engine) = engine else {
+        return false;
+    };
+    let (arrivals, before) = overfull(f, n);
+    let mut waiting = before;
+    let mut grants = [KEPT; ROOM];
+    let mut nodes = [KEPT; ROOM];
+    let a = Backlog(s).cycle(
+        engine,
+        &arrivals[..f.length(Fault::Read, n)],
+        &mut waiting[..f.length(Fault::Waiting, n)],
+        &mut grants[..f.length(Fault::Write, n)],
+        &mut nodes[..f.length(Fault::Nodes, 2 * n)],
+    );
+    f.refused(a, n, s) && waiting == before && grants == [KEPT; ROOM] && nodes == [KEPT; ROOM]
+}
+
+// Arrivals and waiting numbers, each of which becomes the largest of its type by its one arrival. By the fault one number does not fit:
+// it has one arrival more, or it is 254 less than the largest and has 255, or it has 255 and the last station has one more too.
+fn overfull(f: Faulty, n: usize) -> ([u8; ROOM], [u32; ROOM]) {
+    let number = u32::MAX - 1;
+    let mut arrivals = [1u8; ROOM];
+    let mut waiting = [number; ROOM];
+    let spot = f.spot(Fault::Overflow, n, 0);
+    put(
+        &mut arrivals,
+        last(n),
+        f.value(Fault::Overflow, 1, [1, 1, 2]),
+    );
+    put(
+        &mut arrivals,
+        spot,
+        f.value(Fault::Overflow, 1, [2, 255, 255]),
+    );
+    if let Some(at) = waiting.get_mut(spot) {
+        *at = f.value(Fault::Overflow, number, [number, u32::MAX - 254, number]);
+    }
+    (arrivals, waiting)
 }
 
 // A cycle of the packed scan on `n` bytes, the first of them 1. The fault is the first bit past the stations, the last, or all.

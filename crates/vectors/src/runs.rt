@@ -27,7 +27,7 @@ impl Run {
         Run {
             engine,
             state: compare::state(0, 0, None),
-            generator: Generator(1),
+            generator: Generator::new(),
         }
     }
 
@@ -66,7 +66,7 @@ impl Run {
 }
 
 // The widths by number: 1 to 256, and then the wide ones.
-fn width(i: usize) -> usize {
+pub(crate) fn width(i: usize) -> usize {
     if i < 256 {
         return i + 1;
     }
@@ -75,11 +75,16 @@ fn width(i: usize) -> usize {
 
 // A linear congruence modulo 2 to the 31st, by its last number.
 #[derive(Clone, Copy)]
-struct Generator(usize);
+pub struct Generator(usize);
 
 impl Generator {
+    // Before the first number.
+    pub(crate) fn new() -> Generator {
+        Generator(1)
+    }
+
     // The next number.
-    fn next(&mut self) -> usize {
+    pub(crate) fn next(&mut self) -> usize {
         self.0 = (self.0 % 2147483648 * 1103515245 + 12345) % 2147483648;
         self.0
     }

@@ -14,8 +14,10 @@ pub(crate) const CASES: usize = INPUTS * 2;
 pub(crate) fn case(engine: Engine, i: usize) -> Option<bool> {
     let (s, requests) = input(i)?;
     let acknowledge = byte(i / INPUTS % 2);
-    let sized = engine.takes_width(s.width) && s.picks <= engine.most_picks(s.width);
-    if !sized || !engine.takes(s.head) || (acknowledge == 1 && engine != Engine::Bus) {
+    if !engine.takes_size(s)
+        || !engine.takes(s.head)
+        || (acknowledge == 1 && engine != Engine::Bus)
+    {
         return None;
     }
     let requests = requests.get(..s.width)?;

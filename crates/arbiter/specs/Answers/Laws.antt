@@ -7,7 +7,7 @@ use Rattle.arbiter.specs.declared.Answer.{Answer}
 use Rattle.arbiter.specs.declared.Decision.{Decision}
 use Rattle.arbiter.specs.declared.State.{State}
 use Rattle.arbiter.specs.declared.refusal.Refusal.{Refusal}
-use Rattle.arbiter.specs.declared.refusal.Refusal.TheVariants.{Width, TreeWidth, Picks, HeadRange, ReadLength, WriteLength, NodesLength, NotABit, Acknowledge, SecondOne, FirstLine, InputLength, Code, UnusedBit}
+use Rattle.arbiter.specs.declared.refusal.Refusal.TheVariants.{Width, TreeWidth, Picks, HeadRange, ReadLength, WriteLength, NodesLength, NotABit, Acknowledge, SecondOne, FirstLine, InputLength, Code, UnusedBit, WaitingLength, Overflow}
 use Rattle.arbiter.specs.Questions.{Verdict, passed, ◌then◌}
 use Rattle.arbiter.specs.Refusals as Refusals
 use Rattle.arbiter.specs.Answers.{Outcome, number, made, decided, answered, if_passed, opens, opened, writes}
@@ -28,6 +28,8 @@ refusal_number FirstLine z = omega arith
 refusal_number InputLength z = omega arith
 refusal_number Code z = omega arith
 refusal_number (UnusedBit p) z = omega arith
+refusal_number WaitingLength z = omega arith
+refusal_number (Overflow p) z = omega arith
 
 -- a call that is served has passed its questions: `number` is the number of its answer
 pub served_passed : {A : Type 0} (v : Verdict) (a : A) (b : Refusal → A) (number : A → ℕ)

@@ -3,8 +3,8 @@
 use Rattle.std.specs.Prelude.{ℕ, ◌≡◌, refl, List, [], ◌∷◌, map, None, Some}
 use Rattle.std.specs.Int.Count.{ones}
 use Rattle.rules.specs.Thermometer.{code, is_code}
-use Rattle.arbiter.specs.Answers.{number_of}
-use Rattle.arbiter.specs.Questions.{Verdict, width, tree_width, picks, pick_count, one_pick, head, token, nodes_length, acknowledge, codes}
+use Rattle.arbiter.specs.Answers.{number_of, place_of}
+use Rattle.arbiter.specs.Questions.{Verdict, width, tree_width, picks, pick_count, one_pick, head, token, nodes_length, acknowledge, codes, waiting_length, overflow}
 
 -- the numbers of verdicts, 0 where nothing is refused
 abbrev numbers : List Verdict → List ℕ
@@ -43,3 +43,14 @@ known_acknowledges = refl
 pub known_codes : numbers (codes 2 2 1 ∷ codes 2 1 2 ∷ codes 2 7 1 ∷ codes 2 1 1 ∷ codes 2 3 0 ∷ []) ≡ 13 ∷ 13 ∷ 13 ∷ 0 ∷ 0 ∷ []
 unfolding code is_code ones
 known_codes = refl
+
+-- 02, N6: as many waiting numbers as stations
+pub known_waiting_lengths : numbers (waiting_length 4 3 ∷ waiting_length 4 5 ∷ waiting_length 4 4 ∷ []) ≡ 15 ∷ 15 ∷ 0 ∷ []
+known_waiting_lengths = refl
+
+-- "a number that would pass 4,294,967,295", and "the lowest such station"
+pub known_overflows : numbers (overflow (4294967295 ∷ 0 ∷ []) ∷ overflow (4294967296 ∷ []) ∷ overflow [] ∷ []) ≡ 0 ∷ 16 ∷ 0 ∷ []
+known_overflows = refl
+
+pub known_overflow_place : place_of (overflow (0 ∷ 4294967296 ∷ 4294967550 ∷ [])) ≡ 1
+known_overflow_place = refl

@@ -1,26 +1,32 @@
 -- Laws of the engines' cycles: a served one is by the round-robin rule, and a refused one changes nothing.
 -- Assumes nothing.
-use Rattle.std.specs.Prelude.{ℕ, ◌*◌, ◌<◌, ◌≡◌, false, List, length}
+use Rattle.std.specs.Prelude.{ℕ, ◌*◌, ◌≤◌, ◌<◌, ◌≡◌, true, false, List, ltb, length}
+use Rattle.std.proofs.Math.Bool.{true≢false}
 use Rattle.std.proofs.Math.Path.{refl, ap}
-use Rattle.std.proofs.Common.{arith, eq-eqb}
+use Rattle.std.proofs.Common.{sym, ◌∙◌, arith, eq-eqb, ltb-true, ltb-false}
+use lib.ListN.{get_or-eq_default}
 use Rattle.rules.specs.Head.{Head}
-use Rattle.rules.specs.RoundRobin.{start}
+use Rattle.rules.specs.Lists.{member}
+use Rattle.rules.specs.Lists.Laws as Lists
+use Rattle.rules.specs.RoundRobin.{start, granted}
+use Rattle.rules.proofs.RoundRobin.Laws as Rule
 use Rattle.arbiter.specs.declared.Answer.{Answer}
 use Rattle.arbiter.specs.declared.State.{State}
 use Rattle.arbiter.specs.Places.{Bits}
 use Rattle.arbiter.specs.Questions as Questions
-use Rattle.arbiter.specs.Questions.{Verdict, ◌then◌}
+use Rattle.arbiter.specs.Questions.{Verdict, passed, ◌then◌}
 use Rattle.arbiter.specs.Questions.Laws as Asked
 use Rattle.arbiter.specs.Answers as Answers
 use Rattle.arbiter.specs.Answers.{number}
 use Rattle.arbiter.specs.Answers.Laws.{served_passed, passed_is, if_refused, writes_passed, writes_is, writes_refused, opened_passed, passed_opened}
 use Rattle.arbiter.specs.Cycle as RoundRobin
+use Rattle.arbiter.specs.Decisions.{requested}
 use Rattle.tree.specs.Calls as Tree
 use Rattle.tree.specs.Calls.{Outcome}
 use Rattle.tree.specs.Calls.Laws as TreeLaws
 use Rattle.engines.specs.declared.Engine.{Engine}
 use Rattle.engines.specs.declared.Engine.TheVariants.{Scan, Tree, Thermometer, KoggeStone}
-use Rattle.engines.specs.Calls.{opening, cycle}
+use Rattle.engines.specs.Calls.{nodes_question, opening, cycle}
 
 -- a cycle that was served by the rule: what its state and its requests were, what it answered, and what its grant buffer holds
 pub record Served (s : State) (requests : List ℕ) (answer : Answer) (grants : List ℕ) : Type 0 where
@@ -28,6 +34,29 @@ pub record Served (s : State) (requests : List ℕ) (answer : Answer) (grants : 
   pub asked : length requests ≡ s.width
   pub answers : answer ≡ RoundRobin.answer s requests
   pub granted : grants ≡ RoundRobin.granting s requests
+
+-- its grant buffer holds 1 for those whom the rule grants alone
+pub rule_grants : {s : State} {requests : List ℕ} {answer : Answer} {grants : List ℕ} → Served s requests answer grants
+    → (w : ℕ) → requested grants w ≡ member w (granted s.width s.picks s.head (requested requests))
+rule_grants {s} {requests} r w =
+    let asks = requested requests in
+    Lists.split (ltb w s.width)
+    (λ t. rw (r.granted, Rule.grants_member s.width s.picks s.head asks w (ltb-true w s.width t)) (Lists.bit_one _))
+    (λ f.
+    let out : s.width ≤ w = omega (arith, ltb-false w s.width f) in
+    rw (r.granted, get_or-eq_default (RoundRobin.granting s requests) 0 {n = w} (omega (arith, Rule.grants_length s.width s.picks s.head asks)))
+    (sym (Rule.granted_outside s.width s.picks s.head asks w (omega (arith, r.allows.station)) out)))
+
+-- so whoever has a 1 there is a station that asks
+pub granted_asks : {s : State} {requests : List ℕ} {answer : Answer} {grants : List ℕ} → Served s requests answer grants
+    → (w : ℕ) → requested grants w ≡ true → requested requests w ≡ true
+granted_asks {s} {requests} r w t =
+    let asks = requested requests in
+    let head : start s.head ≤ s.width = omega (arith, r.allows.station) in
+    let is = sym (rule_grants r w) ∙ t in
+    Lists.split (ltb w s.width)
+    (λ u. (Lists.both _ _ (sym (Rule.granted_member s.width s.picks s.head asks w head (ltb-true w s.width u)) ∙ is)).0)
+    (λ f. absurd (true≢false (sym is ∙ Rule.granted_outside s.width s.picks s.head asks w head (omega (arith, ltb-false w s.width f)))))
 
 -- scan, thermometer arbiter and Kogge-Stone arbiter
 cycle_served : (s : State) (requests former : List ℕ)
@@ -103,10 +132,10 @@ engine_refused Tree s requests former nodes n = tree_refused s requests former n
 engine_refused Thermometer s requests former nodes n = let u = cycle_refused s requests former n in (u.0, u.1, refl, u.2)
 engine_refused KoggeStone s requests former nodes n = let u = cycle_refused s requests former n in (u.0, u.1, refl, u.2)
 
--- a state that an engine opens with any head, buffers of the right lengths and bytes that are bits: it serves the cycle
+-- a state that an engine opens with any head, requests and grants for each station, and bytes that are bits: it serves the cycle,
+-- the tree with its nodes
 module _ (s : State) (k : Head) (requests former nodes : List ℕ) (head : start s.head < s.width)
-    (asked : length requests ≡ s.width) (room : length former ≡ s.width) (space : length nodes ≡ 2 * s.width)
-    (wires : Bits requests) where
+    (asked : length requests ≡ s.width) (room : length former ≡ s.width) (wires : Bits requests) where
   cycle_serves : number (RoundRobin.opening s.width s.picks k) ≡ 0 → number (RoundRobin.cycle s requests former).answer ≡ 0
   cycle_serves z =
       let before = Questions.width s.width then Questions.picks s.width s.picks in
@@ -116,24 +145,32 @@ module _ (s : State) (k : Head) (requests former nodes : List ℕ) (head : start
       (writes_is v s (RoundRobin.answer s requests) (RoundRobin.granting s requests) former
       (Asked.then_passed _ _ p (Asked.lends s.width requests (length former) asked room wires)))
 
-  tree_serves : number (Tree.opening s.width s.picks k) ≡ 0 → number (Tree.cycle s requests former nodes).answer ≡ 0
+  tree_serves : number (Tree.opening s.width s.picks k) ≡ 0 → Questions.nodes_length s.width (length nodes) ≡ passed
+      → number (Tree.cycle s requests former nodes).answer ≡ 0
   unfolding Tree.cycle
-  tree_serves z =
+  tree_serves z space =
       let n = s.width in
       let before = Questions.width n then Questions.tree_width n then Questions.one_pick s.picks in
       let four = Asked.head_moves before n k s.head (opened_passed _ n s.picks k z) head in
       let five = Asked.then_passed _ (Questions.read_length n (length requests)) four (rw (eq-eqb (length requests) n asked)) in
       let six = Asked.then_passed _ (Questions.write_length n (length former)) five (rw (eq-eqb (length former) n room)) in
-      let seven = Asked.then_passed _ (Questions.nodes_length n (length nodes)) six (rw (eq-eqb (length nodes) (2 * n) space)) in
+      let seven = Asked.then_passed _ (Questions.nodes_length n (length nodes)) six space in
       ap (λ (o : Outcome). number o.answer)
       (passed_is (questions s requests former nodes) _ _ (Asked.then_passed _ (Questions.bits 0 requests) seven (Asked.bits_passes requests wires)))
 
-  pub engine_serves : (e : Engine) → number (opening e s.width s.picks k) ≡ 0
+  pub engine_serves : (e : Engine) → number (opening e s.width s.picks k) ≡ 0 → nodes_question e s.width (length nodes) ≡ passed
       → number (cycle e s requests former nodes).answer ≡ 0
-  engine_serves Scan z = cycle_serves z
-  engine_serves Tree z = tree_serves z
-  engine_serves Thermometer z = cycle_serves z
-  engine_serves KoggeStone z = cycle_serves z
+  engine_serves Scan z space = cycle_serves z
+  engine_serves Tree z space = tree_serves z space
+  engine_serves Thermometer z space = cycle_serves z
+  engine_serves KoggeStone z space = cycle_serves z
+
+-- a node buffer of 2N fits every engine
+pub nodes_fit : (e : Engine) (n size : ℕ) → size ≡ 2 * n → nodes_question e n size ≡ passed
+nodes_fit Scan n size long = refl
+nodes_fit Tree n size long = rw (eq-eqb size (2 * n) long)
+nodes_fit Thermometer n size long = refl
+nodes_fit KoggeStone n size long = refl
 
 -- whatever serves a cycle, the scan opens the state
 pub engine_opens : (s : State) → Asked.Allowed s.width s.picks s.head → number (opening Scan s.width s.picks s.head) ≡ 0

@@ -15,7 +15,7 @@ use Rattle.text.specs.Characters.Laws.{decimal_few}
 use Rattle.arbiter.specs.declared.Answer.{Answer}
 use Rattle.arbiter.specs.declared.State.{State}
 use Rattle.arbiter.specs.declared.refusal.Refusal.{Refusal}
-use Rattle.arbiter.specs.declared.refusal.Refusal.TheVariants.{Width, TreeWidth, Picks, HeadRange, ReadLength, WriteLength, NodesLength, NotABit, Acknowledge, SecondOne, FirstLine, InputLength, Code, UnusedBit}
+use Rattle.arbiter.specs.declared.refusal.Refusal.TheVariants.{Width, TreeWidth, Picks, HeadRange, ReadLength, WriteLength, NodesLength, NotABit, Acknowledge, SecondOne, FirstLine, InputLength, Code, UnusedBit, WaitingLength, Overflow}
 use Rattle.arbiter.specs.Refusals as Refusals
 use Rattle.arbiter.specs.Places.{places, first}
 use Rattle.arbiter.specs.Places.Laws.{found}
@@ -52,6 +52,8 @@ number_few FirstLine = omega arith
 number_few InputLength = omega arith
 number_few Code = omega arith
 number_few (UnusedBit p) = omega arith
+number_few WaitingLength = omega arith
+number_few (Overflow p) = omega arith
 
 -- a verdict whose place is within bounds
 record Small (most : ℕ) (v : Verdict) : Type 0 where

@@ -1,0 +1,120 @@
+-- What a run keeps: each served cycle adds as many messages as arrive and takes as many as it grants.
+-- Assumes nothing.
+use Rattle.std.proofs.Common.{ℕ, suc, ◌+◌, ◌≡◌, refl, sym, ap, ◌∙◌, arith, List, [], ◌∷◌, Bool, eqb, length, get_or, eqb-true}
+use Rattle.std.proofs.lemmas.List.Sums.{sum_by-cons}
+use Rattle.std.specs.List.{sum, sum_by}
+use Rattle.rules.specs.Lists.{bit, count}
+use Rattle.rules.specs.Lists.Laws as Lists
+use Rattle.rules.proofs.RoundRobin.Laws as Rule
+use Rattle.arbiter.specs.declared.Answer.{Answer}
+use Rattle.arbiter.specs.declared.State.{State}
+use Rattle.arbiter.specs.Answers as Answers
+use Rattle.arbiter.specs.Answers.{number}
+use Rattle.arbiter.specs.Decisions.{requested}
+use Rattle.engines.specs.declared.Engine.{Engine}
+use Rattle.engines.specs.Calls as Engines
+use Rattle.backlog.specs.Calls.{Outcome, arrived, requests, cycle}
+use Rattle.backlog.specs.Calls.Laws.{lent_passed, passed_cycle, backlog_served, served_passes, granted_wait, arrived_length, arrived_at, taken_length, taken_at}
+use Rattle.backlog.specs.Runs.{Call, Made, run, served, Finds, now_waiting, granted, EachKept, AllKept}
+
+-- four lists of one length, of which at each place the first two make what the others do, the third by whether it holds a 1: so do the
+-- sums of them
+sums_kept : (xs ys gs zs : List ℕ) → length ys ≡ length xs → length gs ≡ length xs → length zs ≡ length xs
+    → ((w : ℕ) → get_or xs w 0 + get_or ys w 0 ≡ bit (requested gs w) + get_or zs w 0)
+    → sum ys + sum xs ≡ count (λ g. eqb g 1) gs + sum zs
+sums_kept [] [] [] [] a b c each = refl
+sums_kept (x ∷ xs) (y ∷ ys) (g ∷ gs) (z ∷ zs) a b c each =
+    omega (
+      arith,
+      each 0,
+      sums_kept xs ys gs zs (omega (arith, a)) (omega (arith, b)) (omega (arith, c)) (λ w. each (suc w)),
+      sum_by-cons (λ v. v) x xs,
+      sum_by-cons (λ v. v) y ys,
+      sum_by-cons (λ v. v) z zs,
+    )
+sums_kept [] (y ∷ ys) gs zs a b c each = absurd (omega (arith, a))
+sums_kept [] [] (g ∷ gs) zs a b c each = absurd (omega (arith, b))
+sums_kept [] [] [] (z ∷ zs) a b c each = absurd (omega (arith, c))
+sums_kept (x ∷ xs) [] gs zs a b c each = absurd (omega (arith, a))
+sums_kept (x ∷ xs) (y ∷ ys) [] zs a b c each = absurd (omega (arith, b))
+sums_kept (x ∷ xs) (y ∷ ys) (g ∷ gs) [] a b c each = absurd (omega (arith, c))
+
+-- a served call
+module _ (e : Engine) (s : State) (arrivals waiting grants nodes : List ℕ) (z : number (cycle e s arrivals waiting grants nodes).answer ≡ 0) where
+  abbrev left : Outcome
+  left = cycle e s arrivals waiting grants nodes
+
+  -- keeps the messages of each station
+  pub each_kept_once : (w : ℕ) → get_or waiting w 0 + get_or arrivals w 0 ≡ bit (requested left.grants w) + get_or left.waiting w 0
+  each_kept_once w =
+      let p = served_passes e s arrivals waiting grants nodes z in
+      let is = passed_cycle e s arrivals waiting grants nodes p in
+      let l = lent_passed e s arrivals waiting grants nodes p in
+      let after = arrived waiting arrivals in
+      let o = Engines.cycle e s (requests after) grants nodes in
+      let at = arrived_at waiting arrivals (l.came ∙ sym l.counted) w in
+      rw is
+      (Lists.split (requested o.grants w)
+      (λ t. omega (arith, at, taken_at after o.grants w, granted_wait e s arrivals waiting grants nodes p w t, ap bit t))
+      (λ f. omega (arith, at, taken_at after o.grants w, ap bit f)))
+
+  -- and of all
+  pub all_kept_once : sum arrivals + sum waiting ≡ Answers.count left.answer + sum left.waiting
+  all_kept_once =
+      let p = served_passes e s arrivals waiting grants nodes z in
+      let is = passed_cycle e s arrivals waiting grants nodes p in
+      let l = lent_passed e s arrivals waiting grants nodes p in
+      let after = arrived waiting arrivals in
+      let r = backlog_served e s arrivals waiting grants nodes z in
+      let asks = requested (requests after) in
+      let rule = Rule.grants_count s.width s.picks s.head asks (omega (arith, r.allows.station)) in
+      let long : length left.grants ≡ s.width = ap length r.granted ∙ Rule.grants_length s.width s.picks s.head asks in
+      let kept =
+      sums_kept waiting arrivals left.grants left.waiting (l.came ∙ sym l.counted)
+      (long ∙ sym l.counted)
+      (ap (λ (o : Outcome). length o.waiting) is ∙ taken_length after _ ∙ arrived_length waiting arrivals) each_kept_once in
+      let counts : count (λ g. eqb g 1) left.grants ≡ Answers.count left.answer =
+      rw (r.granted, rule) (sym (ap (λ (a : Answer). Answers.count a) r.answers)) in
+      rw counts at kept
+
+-- so does a run: `arrives` is what comes in, `goes` what is taken and `holds` what waits, of one station or of all
+module _ (arrives goes : Made → ℕ) (holds : List ℕ → ℕ)
+    (once : (s : State) (c : Call) → let o = cycle c.engine s c.arrivals c.waiting c.grants c.nodes in
+    let made : Made = record { call = c; left = o } in
+    number o.answer ≡ 0 → arrives made + holds c.waiting ≡ goes made + holds o.waiting) where
+  kept : (s : State) (calls : List Call) (start : List ℕ) → let cycles = served (run s calls) in
+      Finds start cycles → sum_by arrives cycles + holds start ≡ sum_by goes cycles + holds (now_waiting start cycles)
+  kept s [] start finds = refl
+  kept s (c ∷ cs) start finds =
+      let o = cycle c.engine s c.arrivals c.waiting c.grants c.nodes in
+      let made : Made = record { call = c; left = o } in
+      let rest = served (run o.answer.state cs) in
+      Lists.split (eqb (number o.answer) 0)
+      (λ t.
+      let found : (c.waiting ≡ start) × Finds o.waiting rest = rw t at finds in
+      rw t
+      (omega (
+        arith,
+        ap holds found.0,
+        once s c (eqb-true _ 0 t),
+        kept o.answer.state cs o.waiting found.1,
+        sum_by-cons arrives made rest,
+        sum_by-cons goes made rest,
+      )))
+      (λ f. rw f (kept o.answer.state cs start (rw f at finds)))
+
+-- a count as a sum
+sum_bits : (p : Made → Bool) (cs : List Made) → sum_by (λ c. bit (p c)) cs ≡ count p cs
+sum_bits p [] = refl
+sum_bits p (c ∷ cs) = omega (arith, sum_by-cons (λ c. bit (p c)) c cs, sum_bits p cs)
+
+pub each_kept : EachKept
+each_kept s calls start w finds =
+    rw (← sum_bits (granted w) (served (run s calls)))
+    (kept (λ c. get_or c.call.arrivals w 0) (λ c. bit (granted w c)) (λ numbers. get_or numbers w 0)
+    (λ s c z. omega (arith, each_kept_once c.engine s c.arrivals c.waiting c.grants c.nodes z w)) s calls start finds)
+
+pub all_kept : AllKept
+all_kept s calls start finds =
+    kept (λ c. sum c.call.arrivals) (λ c. Answers.count c.left.answer) sum
+    (λ s c z. all_kept_once c.engine s c.arrivals c.waiting c.grants c.nodes z) s calls start finds

@@ -1,0 +1,2 @@
+mod Union
+pub mod Conservation

@@ -1,0 +1,105 @@
+// Messages waiting (02, N6): a line model over the engines that grant by the round-robin rule. It has a number for each station, of
+// messages waiting; each cycle adds the arrivals, lets every station ask that has a message waiting, and takes one from each granted station.
+#![tactic(auto)]
+
+mod question;
+
+ghost use Rattle.std.specs.Prelude.{ℕ, true, ◌≡◌, ◌≤◌, ◌<◌, ◌+◌, length, get_or};
+ghost use Rattle.arbiter.specs.Decisions.{requested};
+ghost use Rattle.arbiter.specs.Places.{Bits};
+ghost use Rattle.arbiter.specs.Questions.{passed, max_waiting};
+ghost use Rattle.backlog.specs.Calls as Calls;
+
+use arbiter::{Answer, MAX_WIDTH, State};
+use engines::{Dispatch, Engine};
+
+// A cycle with no more stations than this makes a small array of requests.
+const FEW: usize = 64;
+
+// A state that any of the engines may serve.
+#[derive(Clone, Copy)]
+pub struct Backlog(pub State);
+
+impl Backlog {
+    // One cycle of an engine: adds the arrivals to the waiting numbers, writes the grants of the stations that then have a message
+    // waiting, takes one from each granted, and answers as the engine's own cycle does. Asks what that asks, but 5 of the arrivals and 8
+    // not at all, 15 after 6 and 16 last. Only the tree asks about the node buffer and writes it. With 4 stations, head 2, waiting numbers
+    // 3 0 0 0 and arrivals 0 1 0 0 each engine grants 0 with one pick: 2 1 0 0 are left, the next head is 1, and more are pending.
+    #[tactic(auto, using(crate::specs::Calls::Laws::lent_passed, crate::specs::Calls::Laws::passed_cycle, crate::specs::Calls::Laws::granted_bits, crate::specs::Calls::Laws::granted_wait))]
+    pub fn cycle(
+        self,
+        engine: Engine,
+        arrivals: &[u8],
+        waiting: &mut [u32],
+        grants: &mut [u8],
+        nodes: &mut [u8],
+    ) -> Answer
+        ensures value { result ≡ (Calls.cycle engine self.0 arrivals.now waiting.old grants.old nodes.old).answer }
+        ensures waiting_after { waiting.new ≡ (Calls.cycle engine self.0 arrivals.now waiting.old grants.old nodes.old).waiting }
+        ensures grants_after { grants.new ≡ (Calls.cycle engine self.0 arrivals.now waiting.old grants.old nodes.old).grants }
+        ensures nodes_after { nodes.new ≡ (Calls.cycle engine self.0 arrivals.now waiting.old grants.old nodes.old).nodes }
+    {
+        let s = self.0;
+        let verdict = engine
+            .ask(s.width, s.picks, s.head)
+            .and_then(|()| question::lent(
+                engine,
+                s.width,
+                arrivals,
+                waiting,
+                grants.len(),
+                nodes.len(),
+            ));
+        if let Err(refusal) = verdict {
+            return s.answer(Err(refusal));
+        }
+        add(arrivals, waiting);
+        let answer = if s.width <= FEW {
+            let mut room = [0; FEW];
+            let requests = write_requests(waiting, &mut room);
+            Dispatch(s).cycle(engine, requests, grants, nodes)
+        } else {
+            let mut room = [0; MAX_WIDTH];
+            let requests = write_requests(waiting, &mut room);
+            Dispatch(s).cycle(engine, requests, grants, nodes)
+        };
+        take(grants, waiting);
+        answer
+    }
+}
+
+// Adds the arrivals to the waiting numbers. By index, as in the two below: of what is written through `zip` a proof knows the length
+// alone.
+fn add(arrivals: &[u8], waiting: &mut [u32])
+    requires arrivals_len { length arrivals.now ≡ length waiting.old }
+    requires fitting { (i : ℕ) → i < length waiting.old → get_or waiting.old i 0 + get_or arrivals.now i 0 ≤ max_waiting }
+    ensures { waiting.new ≡ Calls.arrived waiting.old arrivals.now }
+{
+    for i in 0..waiting.len() {
+        waiting[i] += u32::from(arrivals[i]);
+    }
+}
+
+// Lets every station ask that has a message waiting: writes the requests at the start of `room`, and lends them on.
+fn write_requests<'a>(waiting: &[u32], room: &'a mut [u8]) -> &'a [u8]
+    requires { length waiting.now ≤ length room.old }
+    ensures { result.now ≡ Calls.requests waiting.now }
+{
+    let requests = &mut room[..waiting.len()];
+    for i in 0..waiting.len() {
+        requests[i] = u8::from(waiting[i] != 0);
+    }
+    requests
+}
+
+// Takes one from each granted station, whose byte is 1.
+fn take(grants: &[u8], waiting: &mut [u32])
+    requires grants_len { length grants.now ≡ length waiting.old }
+    requires bits { Bits grants.now }
+    requires some { (i : ℕ) → i < length waiting.old → requested grants.now i ≡ true → 1 ≤ get_or waiting.old i 0 }
+    ensures { waiting.new ≡ Calls.taken waiting.old grants.now }
+{
+    for i in 0..waiting.len() {
+        waiting[i] -= u32::from(grants[i]);
+    }
+}
