@@ -27,8 +27,8 @@ requests numbers = map (λ w. bit (ltb 0 (get_or numbers w 0))) (range 0 (length
 unfoldable pub taken : List ℕ → List ℕ → List ℕ
 taken numbers grants = map (λ w. get_or numbers w 0 - bit (requested grants w)) (range 0 (length numbers))
 
--- the questions about what a cycle is lent, with a grant and a node buffer of these lengths: "5 reads the arrivals' length; 8 is not asked", 6,
--- "15, after 6", for the tree 7, and "16 .. asked last"
+-- the questions about what a cycle is lent, with a grant and a node buffer of these lengths: "5 reads the arrivals' length; 8 is not
+-- asked", 6, "15, after 6", for the tree 7, and "16 .. asked last"
 abbrev pub lent_questions : Engine → ℕ → List ℕ → List ℕ → ℕ → ℕ → Verdict
 lent_questions e n arrivals waiting grantsSize nodesSize =
     Questions.read_length n (length arrivals)

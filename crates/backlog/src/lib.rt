@@ -1,5 +1,6 @@
 // Messages waiting (02, N6): a line model over the engines that grant by the round-robin rule. It has a number for each station, of
-// messages waiting; each cycle adds the arrivals, lets every station ask that has a message waiting, and takes one from each granted station.
+// messages waiting; each cycle adds the arrivals, lets every station ask that has a message waiting, and takes one from each granted
+// station.
 #![tactic(auto)]
 
 mod question;
@@ -7,7 +8,7 @@ mod question;
 ghost use Rattle.std.specs.Prelude.{ℕ, true, ◌≡◌, ◌≤◌, ◌<◌, ◌+◌, length, get_or};
 ghost use Rattle.arbiter.specs.Decisions.{requested};
 ghost use Rattle.arbiter.specs.Places.{Bits};
-ghost use Rattle.arbiter.specs.Questions.{passed, max_waiting};
+ghost use Rattle.arbiter.specs.Questions.{max_waiting};
 ghost use Rattle.backlog.specs.Calls as Calls;
 
 use arbiter::{Answer, MAX_WIDTH, State};
@@ -22,9 +23,9 @@ pub struct Backlog(pub State);
 
 impl Backlog {
     // One cycle of an engine: adds the arrivals to the waiting numbers, writes the grants of the stations that then have a message
-    // waiting, takes one from each granted, and answers as the engine's own cycle does. Asks what that asks, but 5 of the arrivals and 8
-    // not at all, 15 after 6 and 16 last. Only the tree asks about the node buffer and writes it. With 4 stations, head 2, waiting numbers
-    // 3 0 0 0 and arrivals 0 1 0 0 each engine grants 0 with one pick: 2 1 0 0 are left, the next head is 1, and more are pending.
+    // waiting, takes one from each granted, and answers as the engine's own cycle does. Asks what that asks, but 5 of the arrivals and
+    // 8 not at all, 15 after 6 and 16 last. Only the tree asks about the node buffer and writes it. With 4 stations, one pick, head 2,
+    // waiting numbers 3 0 0 0 and arrivals 0 1 0 0 each engine grants 0: 2 1 0 0 are left, the next head is 1, and more are pending.
     #[tactic(auto, using(crate::specs::Calls::Laws::lent_passed, crate::specs::Calls::Laws::passed_cycle, crate::specs::Calls::Laws::granted_bits, crate::specs::Calls::Laws::granted_wait))]
     pub fn cycle(
         self,
