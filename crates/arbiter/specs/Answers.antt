@@ -37,13 +37,15 @@ abbrev pub count_of : Result ℕ Refusal → ℕ
 count_of (Ok count) = count
 count_of (Err refusal) = 0
 
--- an answer's number, place and count; its state stands in it
+-- an answer's number; its state stands in it
 abbrev pub number : Answer → ℕ
 number a = number_of a.outcome
 
+-- its place
 abbrev pub place : Answer → ℕ
 place a = place_of a.outcome
 
+-- its count
 abbrev pub count : Answer → ℕ
 count a = count_of a.outcome
 
@@ -79,12 +81,12 @@ abbrev pub opened : Verdict → ℕ → ℕ → Head → Answer
 opened v n m h = if_passed v (served (made n m h)) (λ refusal. refused refusal nothing)
 
 -- what a call that writes a buffer leaves: its answer, and the bytes that the buffer then holds
-pub record Outcome : Type 0 where
+pub record Effect : Type 0 where
   pub answer : Answer
   pub written : List ℕ
 
 -- a call given the state s, which writes these bytes if it is served; a refusal "writes nothing"
-abbrev pub writes : Verdict → State → Answer → List ℕ → List ℕ → Outcome
+abbrev pub writes : Verdict → State → Answer → List ℕ → List ℕ → Effect
 writes v s answer bytes former =
     if_passed v
     (record { answer = answer; written = bytes })

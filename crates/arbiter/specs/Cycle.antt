@@ -9,11 +9,11 @@ use Rattle.arbiter.specs.declared.State.{State}
 use Rattle.arbiter.specs.Questions as Questions
 use Rattle.arbiter.specs.Questions.{Verdict, ◌then◌}
 use Rattle.arbiter.specs.Decisions.{requested, decision}
-use Rattle.arbiter.specs.Answers.{Outcome, decided, opened, writes}
+use Rattle.arbiter.specs.Answers.{Effect, decided, opened, writes}
 
 -- "Opening takes N and m (and a head, if one is given)", and asks 1, 3 and 4
 abbrev pub opening : ℕ → ℕ → Head → Answer
-opening n m h = opened (Questions.state n m h) n m h
+opening n m h = opened (Questions.state_questions n m h) n m h
 
 -- who asks: a station "asks in a cycle if the call is given 1 for its wire"
 abbrev pub asking : State → List ℕ → ℕ → Bool
@@ -28,13 +28,10 @@ abbrev pub granting : State → List ℕ → List ℕ
 granting s requests = grants s.width s.picks s.head (asking s requests)
 
 -- the questions of a cycle with these requests and a grant buffer of this length: 1, 3, 4, 5, 6 and 8
-abbrev pub asked : ℕ → ℕ → Head → List ℕ → ℕ → Verdict
-asked n m h requests size = Questions.state n m h then Questions.cycle n requests size
-
-abbrev pub questions : State → List ℕ → ℕ → Verdict
-questions s requests size = asked s.width s.picks s.head requests size
+abbrev pub questions : ℕ → ℕ → Head → List ℕ → ℕ → Verdict
+questions n m h requests size = Questions.state_questions n m h then Questions.cycle_questions n requests size
 
 -- a cycle, with the grant buffer's former bytes
-abbrev pub cycle : State → List ℕ → List ℕ → Outcome
+abbrev pub cycle : State → List ℕ → List ℕ → Effect
 cycle s requests former =
-    writes (questions s requests (length former)) s (answer s requests) (granting s requests) former
+    writes (questions s.width s.picks s.head requests (length former)) s (answer s requests) (granting s requests) former

@@ -1,16 +1,17 @@
 -- What a cycle by the round-robin rule decides, apart from any state: 01, "The turn rule", and 02, N5.
 -- Assumes nothing.
-use Rattle.std.specs.Prelude.{ℕ, ◌+◌, Bool, false, cond, List, [], eqb, ltb, length, get_or, Option, None, Some}
+use Rattle.std.specs.Prelude.{ℕ, ◌+◌, Bool, false, cond, List, [], ltb, length, Option, None, Some}
 use Rattle.rules.specs.Head.{Head}
 use Rattle.rules.specs.RoundRobin.{granted, after, next}
 use Rattle.rules.specs.Pending.{more}
 use Rattle.arbiter.specs.declared.Decision.{Decision}
+use Rattle.arbiter.specs.Places.{one_at}
 pub mod Laws
 pub mod OnePick
 
 -- who asks by a buffer's bytes, "1 for asking and 0 for not": station w's byte is 1
 abbrev pub requested : List ℕ → ℕ → Bool
-requested bytes w = eqb (get_or bytes w 0) 1
+requested bytes w = one_at bytes w
 
 -- how many are granted, the next head, and whether more are pending: some asking station is not granted (02, N5)
 abbrev pub decision : ℕ → ℕ → Head → (ℕ → Bool) → Decision

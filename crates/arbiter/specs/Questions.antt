@@ -1,7 +1,7 @@
 -- 01, "Questions each call asks, in this order", and those that 02 adds. n is the width, 01's N; m is the pick count; h is the
 -- head.
 -- Assumes nothing.
-use Rattle.std.specs.Prelude.{ℕ, ◌*◌, ◌/◌, ◌^◌, Bool, true, false, cond, ◌&&◌, List, [], ◌∷◌, map, eqb, ltb, leb, length, drop, Option, None, Some, Result, Ok, Err}
+use Rattle.std.specs.Prelude.{ℕ, ◌*◌, ◌/◌, ◌^◌, Bool, true, false, ◌&&◌, List, [], ◌∷◌, map, eqb, ltb, leb, length, drop, None, Some, Result, Ok, Err}
 use Rattle.rules.specs.Head.{Head}
 use Rattle.rules.specs.Lists.{range, member}
 use Rattle.rules.specs.Thermometer.{is_code}
@@ -47,13 +47,17 @@ width n = refuse_unless (leb 1 n && leb n max_width) Width
 abbrev pub tree_width : ℕ → Verdict
 tree_width n = refuse_unless (member n (map (λ k. 2 ^ k) (range 1 n))) TreeWidth
 
--- 3: "Is m allowed": 1 to 8 and at most N
-abbrev pub picks : ℕ → ℕ → Verdict
-picks n m = refuse_unless ((leb 1 m && leb m 8) && leb m n) Picks
+-- the most grants in one cycle: "m is 1 to 8"
+abbrev pub max_picks : ℕ
+max_picks = 8
 
--- 3 for an adder, which has no N: 1 to 8
+-- 3: "Is m allowed": 1 to the most, and at most N
+abbrev pub picks : ℕ → ℕ → Verdict
+picks n m = refuse_unless ((leb 1 m && leb m max_picks) && leb m n) Picks
+
+-- 3 for an adder, which has no N: 1 to the most
 abbrev pub pick_count : ℕ → Verdict
-pick_count m = refuse_unless (leb 1 m && leb m 8) Picks
+pick_count m = refuse_unless (leb 1 m && leb m max_picks) Picks
 
 -- 3 for the tree and the bus: "m is 1"; and for the packed scan (02, N2): "3 asks for m 1"
 abbrev pub one_pick : ℕ → Verdict
@@ -71,15 +75,15 @@ token n (Some t) = refuse_unless (ltb t n) HeadRange
 
 -- 5: is the buffer to be read "exactly as long as stated"
 abbrev pub read_length : ℕ → ℕ → Verdict
-read_length stated length = refuse_unless (eqb length stated) ReadLength
+read_length stated size = refuse_unless (eqb size stated) ReadLength
 
 -- 6: the same of the buffer to be written
 abbrev pub write_length : ℕ → ℕ → Verdict
-write_length stated length = refuse_unless (eqb length stated) WriteLength
+write_length stated size = refuse_unless (eqb size stated) WriteLength
 
 -- 7: "Is the node buffer 2N long?"
 abbrev pub nodes_length : ℕ → ℕ → Verdict
-nodes_length n length = refuse_unless (eqb length (2 * n)) NodesLength
+nodes_length n size = refuse_unless (eqb size (2 * n)) NodesLength
 
 -- 8: "Is every byte read 0 or 1", from a place on; "the place of the first that is not"
 abbrev pub bits : ℕ → List ℕ → Verdict
@@ -103,7 +107,7 @@ unused_bits n packed = refuse_at_first UnusedBit (map (λ i. i / 8) (set_lines n
 
 -- 15 (02, N6): "a waiting buffer not of N numbers"
 abbrev pub waiting_length : ℕ → ℕ → Verdict
-waiting_length n length = refuse_unless (eqb length n) WaitingLength
+waiting_length n size = refuse_unless (eqb size n) WaitingLength
 
 -- the most messages that wait at a station: 02, N6, "4,294,967,295"
 abbrev pub max_waiting : ℕ
@@ -115,13 +119,13 @@ abbrev pub overflow : List ℕ → Verdict
 overflow numbers = refuse_at_first Overflow (places (ltb max_waiting) 0 numbers)
 
 -- 1, 3 and 4
-abbrev pub state : ℕ → ℕ → Head → Verdict
-state n m h = width n then picks n m then head n h
+abbrev pub state_questions : ℕ → ℕ → Head → Verdict
+state_questions n m h = width n then picks n m then head n h
 
 -- those of a call that writes what a state holds to a buffer: 1, 3, 4 and 6
-abbrev pub write : ℕ → ℕ → Head → ℕ → ℕ → Verdict
-write n m h stated length = state n m h then write_length stated length
+abbrev pub write_questions : ℕ → ℕ → Head → ℕ → ℕ → Verdict
+write_questions n m h stated size = state_questions n m h then write_length stated size
 
 -- those of a cycle with these requests and a grant buffer of this length, after those about its state: 5, 6 and 8
-abbrev pub cycle : ℕ → List ℕ → ℕ → Verdict
-cycle n requests size = read_length n (length requests) then write_length n size then bits 0 requests
+abbrev pub cycle_questions : ℕ → List ℕ → ℕ → Verdict
+cycle_questions n requests size = read_length n (length requests) then write_length n size then bits 0 requests

@@ -2,10 +2,10 @@
 ghost use lib.Pointwise.{pointwise};
 ghost use Rattle.std.specs.Prelude.{ℕ, eqb, not, nat_eq, ◌&&◌, ◌≡◌, length, Ok};
 ghost use Rattle.rules.specs.Head as Heads;
-ghost use Rattle.rules.specs.RoundRobin as Rule;
+ghost use Rattle.rules.specs.RoundRobin as RoundRobinRule;
 ghost use Rattle.arbiter.specs.declared.State as States;
 ghost use Rattle.arbiter.specs.Answers as Answers;
-ghost use Rattle.arbiter.specs.Cycle as Cycle;
+ghost use Rattle.arbiter.specs.Cycle as RoundRobinCalls;
 ghost use Rattle.arbiter.specs.Decisions.{requested, decision};
 ghost use Rattle.arbiter.specs.Questions as Questions;
 ghost use Rattle.arbiter.specs.Questions.{◌then◌};
@@ -66,7 +66,7 @@ pub struct ServedCycle<'a> {
     pub grants: &'a mut [u8],
     ghost width_bound: { length requests.now ≤ Questions.max_width },
     ghost picked: { 1 ≤ picks },
-    ghost picks_bound: { picks ≤ 8 },
+    ghost picks_bound: { picks ≤ Questions.max_picks },
     ghost picks_le_width: { picks ≤ length requests.now },
     ghost head_bound: { start head < length requests.now },
     ghost grants_len: { length grants.now ≡ length requests.now },
@@ -96,13 +96,13 @@ pub trait RoundRobin: Arbiter {
     fn grant(cycle: &mut ServedCycle<'_>) -> Decision
         ensures value { result ≡ decision (length cycle.old.requests.now) cycle.old.picks cycle.old.head (requested cycle.old.requests.now) }
         ensures same_reference { cycle.new.grants.ghost_name ≡ cycle.old.grants.ghost_name }
-        ensures grants_after { cycle.new.grants.now ≡ Rule.grants (length cycle.old.requests.now) cycle.old.picks cycle.old.head (requested cycle.old.requests.now) };
+        ensures grants_after { cycle.new.grants.now ≡ RoundRobinRule.grants (length cycle.old.requests.now) cycle.old.picks cycle.old.head (requested cycle.old.requests.now) };
 
     // One cycle: writes the grants of these requests, and answers with their count, the next state, and whether more are pending.
     // Asks 1, 3, 4, 5, 6 and 8. With 4 stations, 2 picks, head 3 and all asking it grants 3 and 0, the next head is 1, and more are.
     final fn cycle(self, requests: &[u8], grants: &mut [u8]) -> Answer
-        ensures value { result ≡ (Cycle.cycle (Self.state_of self) requests.now grants.old).answer }
-        ensures grants_after { grants.new ≡ (Cycle.cycle (Self.state_of self) requests.now grants.old).written }
+        ensures value { result ≡ (RoundRobinCalls.cycle (Self.state_of self) requests.now grants.old).answer }
+        ensures grants_after { grants.new ≡ (RoundRobinCalls.cycle (Self.state_of self) requests.now grants.old).written }
     {
         let s = self.state();
         let decided = arbitrate::<Self>(s.width, s.picks, s.head, requests, grants);
@@ -118,8 +118,8 @@ fn arbitrate<E: RoundRobin>(
     requests: &[u8],
     grants: &mut [u8],
 ) -> Result<Decision, Refusal>
-    ensures value { result ≡ (Cycle.asked width picks head requests.now (length grants.old) then Ok (decision width picks head (requested requests.now))) }
-    ensures grants_after { grants.new ≡ Answers.if_passed (Cycle.asked width picks head requests.now (length grants.old)) (Rule.grants width picks head (requested requests.now)) (λ _. grants.old) }
+    ensures value { result ≡ (RoundRobinCalls.questions width picks head requests.now (length grants.old) then Ok (decision width picks head (requested requests.now))) }
+    ensures grants_after { grants.new ≡ Answers.if_passed (RoundRobinCalls.questions width picks head requests.now (length grants.old)) (RoundRobinRule.grants width picks head (requested requests.now)) (λ _. grants.old) }
 {
     question::state(width, picks, head)?;
     let high = question::cycle(width, requests, grants.len())?;

@@ -93,7 +93,7 @@ pub fn read(bytes: &[u8]) -> Result<u8, Refusal>
 
 // Questions 1, 3 and 4.
 pub fn state(width: usize, picks: usize, head: Head) -> Verdict
-    ensures { result ≡ Questions.state width picks head }
+    ensures { result ≡ Questions.state_questions width picks head }
 {
     self::width(width)?;
     self::picks(width, picks)?;
@@ -102,7 +102,7 @@ pub fn state(width: usize, picks: usize, head: Head) -> Verdict
 
 // Questions 1, 3, 4 and 6 of a call that writes what a state holds to a buffer.
 pub fn write(width: usize, picks: usize, head: Head, stated: usize, length: usize) -> Verdict
-    ensures { result ≡ Questions.write width picks head stated length }
+    ensures { result ≡ Questions.write_questions width picks head stated length }
 {
     state(width, picks, head)?;
     write_length(stated, length)
@@ -111,7 +111,7 @@ pub fn write(width: usize, picks: usize, head: Head, stated: usize, length: usiz
 // Questions 5, 6 and 8 of a cycle, after those about its state, with the highest byte of the requests where they pass. Its grant
 // buffer has `length` bytes.
 pub fn cycle(width: usize, requests: &[u8], length: usize) -> Result<u8, Refusal>
-    ensures { result ≡ (Questions.cycle width requests.now length then Ok (highest requests.now)) }
+    ensures { result ≡ (Questions.cycle_questions width requests.now length then Ok (highest requests.now)) }
 {
     read_length(width, requests.len())?;
     write_length(width, length)?;

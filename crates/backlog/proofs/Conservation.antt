@@ -4,16 +4,16 @@ use Rattle.std.proofs.Common.{ℕ, suc, ◌+◌, ◌≡◌, refl, sym, ap, ◌�
 use Rattle.std.proofs.lemmas.List.Sums.{sum_by-cons}
 use Rattle.std.specs.List.{sum, sum_by}
 use Rattle.rules.specs.Lists.{bit, count}
-use Rattle.rules.specs.Lists.Laws as Lists
-use Rattle.rules.proofs.RoundRobin.Laws as Rule
+use Rattle.rules.specs.Lists.Laws as ListsLaws
+use Rattle.rules.proofs.RoundRobin.Laws as RoundRobinLaws
 use Rattle.arbiter.specs.declared.Answer.{Answer}
 use Rattle.arbiter.specs.declared.State.{State}
 use Rattle.arbiter.specs.Answers as Answers
 use Rattle.arbiter.specs.Answers.{number}
 use Rattle.arbiter.specs.Decisions.{requested}
 use Rattle.engines.specs.declared.Engine.{Engine}
-use Rattle.engines.specs.Calls as Engines
-use Rattle.backlog.specs.Calls.{Outcome, arrived, requests, cycle}
+use Rattle.engines.specs.Calls as EngineCalls
+use Rattle.backlog.specs.Calls.{BacklogEffect, arrived, requests, cycle}
 use Rattle.backlog.specs.Calls.Laws.{lent_passed, passed_cycle, backlog_served, served_passes, granted_wait, arrived_length, arrived_at, taken_length, taken_at}
 use Rattle.backlog.specs.Runs.{Call, Made, run, served, Finds, now_waiting, granted, EachKept, AllKept}
 
@@ -41,7 +41,7 @@ sums_kept (x ∷ xs) (y ∷ ys) (g ∷ gs) [] a b c each = absurd (omega (arith,
 
 -- a served call
 module _ (e : Engine) (s : State) (arrivals waiting grants nodes : List ℕ) (z : number (cycle e s arrivals waiting grants nodes).answer ≡ 0) where
-  abbrev left : Outcome
+  abbrev left : BacklogEffect
   left = cycle e s arrivals waiting grants nodes
 
   -- keeps the messages of each station
@@ -51,10 +51,10 @@ module _ (e : Engine) (s : State) (arrivals waiting grants nodes : List ℕ) (z 
       let is = passed_cycle e s arrivals waiting grants nodes p in
       let l = lent_passed e s arrivals waiting grants nodes p in
       let after = arrived waiting arrivals in
-      let o = Engines.cycle e s (requests after) grants nodes in
+      let o = EngineCalls.cycle e s (requests after) grants nodes in
       let at = arrived_at waiting arrivals (l.came ∙ sym l.counted) w in
       rw is
-      (Lists.split (requested o.grants w)
+      (ListsLaws.split (requested o.grants w)
       (λ t. omega (arith, at, taken_at after o.grants w, granted_wait e s arrivals waiting grants nodes p w t, ap bit t))
       (λ f. omega (arith, at, taken_at after o.grants w, ap bit f)))
 
@@ -67,12 +67,12 @@ module _ (e : Engine) (s : State) (arrivals waiting grants nodes : List ℕ) (z 
       let after = arrived waiting arrivals in
       let r = backlog_served e s arrivals waiting grants nodes z in
       let asks = requested (requests after) in
-      let rule = Rule.grants_count s.width s.picks s.head asks (omega (arith, r.allows.station)) in
-      let long : length left.grants ≡ s.width = ap length r.granted ∙ Rule.grants_length s.width s.picks s.head asks in
+      let rule = RoundRobinLaws.grants_count s.width s.picks s.head asks (omega (arith, r.allows.station)) in
+      let long : length left.grants ≡ s.width = ap length r.granted ∙ RoundRobinLaws.grants_length s.width s.picks s.head asks in
       let kept =
       sums_kept waiting arrivals left.grants left.waiting (l.came ∙ sym l.counted)
       (long ∙ sym l.counted)
-      (ap (λ (o : Outcome). length o.waiting) is ∙ taken_length after _ ∙ arrived_length waiting arrivals) each_kept_once in
+      (ap (λ (o : BacklogEffect). length o.waiting) is ∙ taken_length after _ ∙ arrived_length waiting arrivals) each_kept_once in
       let counts : count (λ g. eqb g 1) left.grants ≡ Answers.count left.answer =
       rw (r.granted, rule) (sym (ap (λ (a : Answer). Answers.count a) r.answers)) in
       rw counts at kept
@@ -89,7 +89,7 @@ module _ (arrives goes : Made → ℕ) (holds : List ℕ → ℕ)
       let o = cycle c.engine s c.arrivals c.waiting c.grants c.nodes in
       let made : Made = record { call = c; left = o } in
       let rest = served (run o.answer.state cs) in
-      Lists.split (eqb (number o.answer) 0)
+      ListsLaws.split (eqb (number o.answer) 0)
       (λ t.
       let found : (c.waiting ≡ start) × Finds o.waiting rest = rw t at finds in
       rw t

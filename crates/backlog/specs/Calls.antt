@@ -9,9 +9,9 @@ use Rattle.arbiter.specs.declared.State.{State}
 use Rattle.arbiter.specs.Questions as Questions
 use Rattle.arbiter.specs.Questions.{Verdict, ◌then◌}
 use Rattle.arbiter.specs.Answers.{refused, if_passed}
-use Rattle.arbiter.specs.Decisions.{requested}
+use Rattle.arbiter.specs.Places.{one_at}
 use Rattle.engines.specs.declared.Engine.{Engine}
-use Rattle.engines.specs.Calls as Engines
+use Rattle.engines.specs.Calls as EngineCalls
 pub mod Laws
 pub mod Known
 
@@ -25,7 +25,7 @@ requests numbers = map (λ w. bit (ltb 0 (get_or numbers w 0))) (range 0 (length
 
 -- "takes one from each granted station"
 unfoldable pub taken : List ℕ → List ℕ → List ℕ
-taken numbers grants = map (λ w. get_or numbers w 0 - bit (requested grants w)) (range 0 (length numbers))
+taken numbers grants = map (λ w. get_or numbers w 0 - bit (one_at grants w)) (range 0 (length numbers))
 
 -- the questions about what a cycle is lent, with a grant and a node buffer of these lengths: "5 reads the arrivals' length; 8 is not
 -- asked", 6, "15, after 6", for the tree 7, and "16 .. asked last"
@@ -34,16 +34,16 @@ lent_questions e n arrivals waiting grantsSize nodesSize =
     Questions.read_length n (length arrivals)
     then Questions.write_length n grantsSize
     then Questions.waiting_length n (length waiting)
-    then Engines.nodes_question e n nodesSize
+    then EngineCalls.nodes_question e n nodesSize
     then Questions.overflow (arrived waiting arrivals)
 
 -- the questions of a cycle: those about its state, 1, 3 and 4, the tree 2 after 1, come first
 abbrev pub questions : Engine → ℕ → ℕ → Head → List ℕ → List ℕ → ℕ → ℕ → Verdict
 questions e n m h arrivals waiting grantsSize nodesSize =
-    Engines.questions e n m h then lent_questions e n arrivals waiting grantsSize nodesSize
+    EngineCalls.state_questions e n m h then lent_questions e n arrivals waiting grantsSize nodesSize
 
 -- what a cycle leaves: its answer, the waiting numbers, and the bytes that the two buffers then hold
-pub record Outcome : Type 0 where
+pub record BacklogEffect : Type 0 where
   pub answer : Answer
   pub waiting : List ℕ
   pub grants : List ℕ
@@ -51,10 +51,10 @@ pub record Outcome : Type 0 where
 
 -- a cycle, with the buffers' former bytes: the engine's own with the requests that there are after the arrivals; a refusal "writes
 -- nothing"
-unfoldable pub cycle : Engine → State → List ℕ → List ℕ → List ℕ → List ℕ → Outcome
-cycle e s arrivals waiting grants nodes =
+unfoldable pub cycle : Engine → State → List ℕ → List ℕ → List ℕ → List ℕ → BacklogEffect
+cycle e s arrivals waiting former formerNodes =
     let numbers = arrived waiting arrivals in
-    let o = Engines.cycle e s (requests numbers) grants nodes in
-    if_passed (questions e s.width s.picks s.head arrivals waiting (length grants) (length nodes))
+    let o = EngineCalls.cycle e s (requests numbers) former formerNodes in
+    if_passed (questions e s.width s.picks s.head arrivals waiting (length former) (length formerNodes))
     (record { answer = o.answer; waiting = taken numbers o.grants; grants = o.grants; nodes = o.nodes })
-    (λ refusal. record { answer = refused refusal s; waiting = waiting; grants = grants; nodes = nodes })
+    (λ refusal. record { answer = refused refusal s; waiting = waiting; grants = former; nodes = formerNodes })

@@ -7,9 +7,9 @@ use Rattle.rules.specs.Lists.{filter, count}
 use Rattle.arbiter.specs.declared.State.{State}
 use Rattle.arbiter.specs.Answers as Answers
 use Rattle.arbiter.specs.Answers.{number}
-use Rattle.arbiter.specs.Decisions.{requested}
+use Rattle.arbiter.specs.Places.{one_at}
 use Rattle.engines.specs.declared.Engine.{Engine}
-use Rattle.backlog.specs.Calls.{Outcome, cycle}
+use Rattle.backlog.specs.Calls.{BacklogEffect, cycle}
 
 -- a call, with whatever it is given: the engine, the arrivals, the waiting numbers, and the bytes that the grant buffer and the node
 -- buffer hold before
@@ -23,7 +23,7 @@ pub record Call : Type 0 where
 -- a call that was made, with what it left
 pub record Made : Type 0 where
   pub call : Call
-  pub left : Outcome
+  pub left : BacklogEffect
 
 -- a list of calls: "each cycle starts from the state the one before left"
 abbrev pub run : State → List Call → List Made
@@ -48,7 +48,7 @@ now_waiting start (c ∷ cs) = now_waiting c.left.waiting cs
 
 -- station w is granted: the grant buffer afterwards holds 1 for it
 abbrev pub granted : ℕ → Made → Bool
-granted w c = requested c.left.grants w
+granted w c = one_at c.left.grants w
 
 -- "for each station"
 abbrev pub EachKept : Type 0

@@ -9,7 +9,7 @@ ghost use Rattle.std.specs.Prelude.{ℕ, true, ◌≡◌, ◌≤◌, ◌<◌, �
 ghost use Rattle.arbiter.specs.Decisions.{requested};
 ghost use Rattle.arbiter.specs.Places.{Bits};
 ghost use Rattle.arbiter.specs.Questions.{max_waiting};
-ghost use Rattle.backlog.specs.Calls as Calls;
+ghost use Rattle.backlog.specs.Calls as BacklogCalls;
 
 use arbiter::{Answer, MAX_WIDTH, State};
 use engines::{Dispatch, Engine};
@@ -35,10 +35,10 @@ impl Backlog {
         grants: &mut [u8],
         nodes: &mut [u8],
     ) -> Answer
-        ensures value { result ≡ (Calls.cycle engine self.0 arrivals.now waiting.old grants.old nodes.old).answer }
-        ensures waiting_after { waiting.new ≡ (Calls.cycle engine self.0 arrivals.now waiting.old grants.old nodes.old).waiting }
-        ensures grants_after { grants.new ≡ (Calls.cycle engine self.0 arrivals.now waiting.old grants.old nodes.old).grants }
-        ensures nodes_after { nodes.new ≡ (Calls.cycle engine self.0 arrivals.now waiting.old grants.old nodes.old).nodes }
+        ensures value { result ≡ (BacklogCalls.cycle engine self.0 arrivals.now waiting.old grants.old nodes.old).answer }
+        ensures waiting_after { waiting.new ≡ (BacklogCalls.cycle engine self.0 arrivals.now waiting.old grants.old nodes.old).waiting }
+        ensures grants_after { grants.new ≡ (BacklogCalls.cycle engine self.0 arrivals.now waiting.old grants.old nodes.old).grants }
+        ensures nodes_after { nodes.new ≡ (BacklogCalls.cycle engine self.0 arrivals.now waiting.old grants.old nodes.old).nodes }
     {
         let s = self.0;
         let verdict = engine
@@ -74,7 +74,7 @@ impl Backlog {
 fn add(arrivals: &[u8], waiting: &mut [u32])
     requires arrivals_len { length arrivals.now ≡ length waiting.old }
     requires fitting { (i : ℕ) → i < length waiting.old → get_or waiting.old i 0 + get_or arrivals.now i 0 ≤ max_waiting }
-    ensures { waiting.new ≡ Calls.arrived waiting.old arrivals.now }
+    ensures { waiting.new ≡ BacklogCalls.arrived waiting.old arrivals.now }
 {
     for i in 0..waiting.len() {
         waiting[i] += u32::from(arrivals[i]);
@@ -84,7 +84,7 @@ fn add(arrivals: &[u8], waiting: &mut [u32])
 // Lets every station ask that has a message waiting: writes the requests at the start of `room`, and lends them on.
 fn write_requests<'a>(waiting: &[u32], room: &'a mut [u8]) -> &'a [u8]
     requires { length waiting.now ≤ length room.old }
-    ensures { result.now ≡ Calls.requests waiting.now }
+    ensures { result.now ≡ BacklogCalls.requests waiting.now }
 {
     let requests = &mut room[..waiting.len()];
     for i in 0..waiting.len() {
@@ -98,7 +98,7 @@ fn take(grants: &[u8], waiting: &mut [u32])
     requires grants_len { length grants.now ≡ length waiting.old }
     requires bits { Bits grants.now }
     requires some { (i : ℕ) → i < length waiting.old → requested grants.now i ≡ true → 1 ≤ get_or waiting.old i 0 }
-    ensures { waiting.new ≡ Calls.taken waiting.old grants.now }
+    ensures { waiting.new ≡ BacklogCalls.taken waiting.old grants.now }
 {
     for i in 0..waiting.len() {
         waiting[i] -= u32::from(grants[i]);

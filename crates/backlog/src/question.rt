@@ -2,7 +2,7 @@
 ghost use Rattle.std.specs.Prelude.{ℕ, ◌≡◌, ◌≤◌, ◌<◌, ltb, length, get_or};
 ghost use Rattle.arbiter.specs.Places as Places;
 ghost use Rattle.arbiter.specs.Questions as Questions;
-ghost use Rattle.backlog.specs.Calls as Calls;
+ghost use Rattle.backlog.specs.Calls as BacklogCalls;
 
 use arbiter::question::{self, Verdict};
 use arbiter::refusal::Refusal;
@@ -19,7 +19,7 @@ fn waiting_length(width: usize, length: usize) -> Verdict
 // would not. It is looked for only where the numbers or'ed are so large that a byte of arrivals might take one past the most.
 fn overflow(arrivals: &[u8], waiting: &[u32]) -> Verdict
     requires { length arrivals.now ≡ length waiting.now }
-    ensures { result ≡ Questions.overflow (Calls.arrived waiting.now arrivals.now) }
+    ensures { result ≡ Questions.overflow (BacklogCalls.arrived waiting.now arrivals.now) }
 {
     if union(waiting) <= u32::MAX - u32::from(u8::MAX) {
         return Ok(());
@@ -33,7 +33,7 @@ fn overflow(arrivals: &[u8], waiting: &[u32]) -> Verdict
 // The first place at which the sum of the two would not stay within the type, or none, one place at a time.
 fn first_over(arrivals: &[u8], waiting: &[u32]) -> Option<usize>
     requires { length arrivals.now ≡ length waiting.now }
-    ensures { result ≡ Places.first (Places.places (ltb Questions.max_waiting) 0 (Calls.arrived waiting.now arrivals.now)) }
+    ensures { result ≡ Places.first (Places.places (ltb Questions.max_waiting) 0 (BacklogCalls.arrived waiting.now arrivals.now)) }
 {
     (0..waiting.len()).find(|i| u32::MAX - u32::from(arrivals[*i]) < waiting[*i])
 }
@@ -54,7 +54,7 @@ pub(crate) fn lent(
     grants: usize,
     nodes: usize,
 ) -> Verdict
-    ensures { result ≡ Calls.lent_questions engine width arrivals.now waiting.now grants nodes }
+    ensures { result ≡ BacklogCalls.lent_questions engine width arrivals.now waiting.now grants nodes }
 {
     question::read_length(width, arrivals.len())?;
     question::write_length(width, grants)?;

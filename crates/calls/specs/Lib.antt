@@ -1,1 +1,1 @@
-pub mod Answers
+pub mod EveryCall

@@ -7,19 +7,19 @@ use Rattle.arbiter.specs.declared.State.{State}
 use Rattle.arbiter.specs.Questions as Questions
 use Rattle.arbiter.specs.Questions.{Verdict, passed}
 use Rattle.arbiter.specs.Answers as Answers
-use Rattle.arbiter.specs.Cycle as RoundRobin
-use Rattle.tree.specs.Calls as Tree
-use Rattle.tree.specs.Calls.{Outcome}
+use Rattle.arbiter.specs.Cycle as RoundRobinCalls
+use Rattle.tree.specs.Calls as TreeCalls
+use Rattle.tree.specs.Calls.{TreeEffect}
 use Rattle.engines.specs.declared.Engine.{Engine}
 use Rattle.engines.specs.declared.Engine.TheVariants.{Scan, Tree, Thermometer, KoggeStone}
 pub mod Laws
 
 -- what an engine asks about a state
-abbrev pub questions : Engine → ℕ → ℕ → Head → Verdict
-questions Scan n m h = Questions.state n m h
-questions Tree n m h = Tree.state n m h
-questions Thermometer n m h = Questions.state n m h
-questions KoggeStone n m h = Questions.state n m h
+abbrev pub state_questions : Engine → ℕ → ℕ → Head → Verdict
+state_questions Scan n m h = Questions.state_questions n m h
+state_questions Tree n m h = TreeCalls.state_questions n m h
+state_questions Thermometer n m h = Questions.state_questions n m h
+state_questions KoggeStone n m h = Questions.state_questions n m h
 
 -- what it asks about a node buffer of this length: the tree 7, the others nothing
 abbrev pub nodes_question : Engine → ℕ → ℕ → Verdict
@@ -30,16 +30,16 @@ nodes_question KoggeStone n size = passed
 
 -- its opening
 abbrev pub opening : Engine → ℕ → ℕ → Head → Answer
-opening e n m h = Answers.opened (questions e n m h) n m h
+opening e n m h = Answers.opened (state_questions e n m h) n m h
 
 -- what a cycle leaves that knows no node buffer: its bytes stay
-abbrev pub with_nodes : Answers.Outcome → List ℕ → Outcome
-with_nodes o nodes = record { answer = o.answer; grants = o.written; nodes = nodes }
+abbrev pub with_nodes : Answers.Effect → List ℕ → TreeEffect
+with_nodes o formerNodes = record { answer = o.answer; grants = o.written; nodes = formerNodes }
 
 -- an engine's cycle, with the former bytes of the grant buffer and of the node buffer: what it answers, and what the two buffers
 -- then hold
-abbrev pub cycle : Engine → State → List ℕ → List ℕ → List ℕ → Outcome
-cycle Scan s requests grants nodes = with_nodes (RoundRobin.cycle s requests grants) nodes
-cycle Tree s requests grants nodes = Tree.cycle s requests grants nodes
-cycle Thermometer s requests grants nodes = with_nodes (RoundRobin.cycle s requests grants) nodes
-cycle KoggeStone s requests grants nodes = with_nodes (RoundRobin.cycle s requests grants) nodes
+abbrev pub cycle : Engine → State → List ℕ → List ℕ → List ℕ → TreeEffect
+cycle Scan s requests former formerNodes = with_nodes (RoundRobinCalls.cycle s requests former) formerNodes
+cycle Tree s requests former formerNodes = TreeCalls.cycle s requests former formerNodes
+cycle Thermometer s requests former formerNodes = with_nodes (RoundRobinCalls.cycle s requests former) formerNodes
+cycle KoggeStone s requests former formerNodes = with_nodes (RoundRobinCalls.cycle s requests former) formerNodes

@@ -2,7 +2,7 @@
 #![tactic(auto)]
 
 ghost use Rattle.std.specs.Prelude.{◌≡◌};
-ghost use Rattle.engines.specs.Calls as Calls;
+ghost use Rattle.engines.specs.Calls as EngineCalls;
 
 use arbiter::engine::{Arbiter, RoundRobin};
 use arbiter::question::Verdict;
@@ -26,7 +26,7 @@ pub enum Engine {
 impl Engine {
     // The questions about a state: what the engine's own opening asks, 1, 3 and 4, the tree 2 after 1.
     pub fn ask(self, width: usize, picks: usize, head: Head) -> Verdict
-        ensures { result ≡ Calls.questions self width picks head }
+        ensures { result ≡ EngineCalls.state_questions self width picks head }
     {
         match self {
             Engine::Scan => Scan::ask(width, picks, head),
@@ -38,7 +38,7 @@ impl Engine {
 
     // The question about a node buffer of this length: the tree asks 7, the others nothing.
     pub fn ask_nodes(self, width: usize, length: usize) -> Verdict
-        ensures { result ≡ Calls.nodes_question self width length }
+        ensures { result ≡ EngineCalls.nodes_question self width length }
     {
         match self {
             Engine::Scan | Engine::Thermometer | Engine::KoggeStone => Ok(()),
@@ -48,7 +48,7 @@ impl Engine {
 
     // Opens the engine with this head or none.
     fn opening(self, width: usize, picks: usize, head: Head) -> Answer
-        ensures { result ≡ Calls.opening self width picks head }
+        ensures { result ≡ EngineCalls.opening self width picks head }
     {
         match self {
             Engine::Scan => Scan::opening(width, picks, head),
@@ -66,14 +66,14 @@ pub struct Dispatch(pub State);
 impl Dispatch {
     // Opens an engine with no head. Asks what the engine's own opening asks: 1, 3 and 4, the tree 2 after 1.
     pub fn open(engine: Engine, width: usize, picks: usize) -> Answer
-        ensures { result ≡ Calls.opening engine width picks None }
+        ensures { result ≡ EngineCalls.opening engine width picks None }
     {
         engine.opening(width, picks, None)
     }
 
     // Opens an engine with a head. Asks the same.
     pub fn open_at(engine: Engine, width: usize, picks: usize, head: usize) -> Answer
-        ensures { result ≡ Calls.opening engine width picks (Some head) }
+        ensures { result ≡ EngineCalls.opening engine width picks (Some head) }
     {
         engine.opening(width, picks, Some(head))
     }
@@ -88,9 +88,9 @@ impl Dispatch {
         grants: &mut [u8],
         nodes: &mut [u8],
     ) -> Answer
-        ensures value { result ≡ (Calls.cycle engine self.0 requests.now grants.old nodes.old).answer }
-        ensures grants_after { grants.new ≡ (Calls.cycle engine self.0 requests.now grants.old nodes.old).grants }
-        ensures nodes_after { nodes.new ≡ (Calls.cycle engine self.0 requests.now grants.old nodes.old).nodes }
+        ensures value { result ≡ (EngineCalls.cycle engine self.0 requests.now grants.old nodes.old).answer }
+        ensures grants_after { grants.new ≡ (EngineCalls.cycle engine self.0 requests.now grants.old nodes.old).grants }
+        ensures nodes_after { nodes.new ≡ (EngineCalls.cycle engine self.0 requests.now grants.old nodes.old).nodes }
     {
         let s = self.0;
         match engine {

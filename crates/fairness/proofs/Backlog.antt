@@ -8,12 +8,12 @@ use mathlib.Core.Logic.{inl, inr, ⊎_elim}
 use native.Mathlib.Omega.{arith}
 use lib.ListN.{length}
 use Rattle.std.proofs.lemmas.List.{length-map, map-append}
-use Rattle.rules.specs.Lists.Laws as Lists
+use Rattle.rules.specs.Lists.Laws as ListsLaws
 use Rattle.arbiter.specs.declared.State.{State}
 use Rattle.engines.specs.declared.Engine.{Engine}
 use Rattle.engines.specs.declared.Engine.TheVariants.{Scan}
 use Rattle.engines.specs.Calls.Laws.{engine_opens, opens_allowed}
-use Rattle.backlog.specs.Runs as Backlog
+use Rattle.backlog.specs.Runs as BacklogRuns
 use Rattle.fairness.specs.Waiting.{By, Made, asks, granted, by_engines, Serves, Wait, ceiling, BoundedWaiting, NotTwice, UnservedRefused}
 use Rattle.fairness.specs.Backlog.{as_engine, has_message, with_messages, BacklogGrantedWithin, BacklogGrantedInTime}
 use Rattle.fairness.proofs.Readings.{count_map, each_map}
@@ -22,7 +22,7 @@ use Rattle.fairness.proofs.BacklogCalls.{message_asks, grants_within, backlog_li
 use Rattle.fairness.proofs.BacklogSharpness.{longest_backlog_wait, backlog_no_sooner, backlog_other_once}
 
 -- a wait, as it is read
-read_wait : (s : State) (w : ℕ) (waiting : List Backlog.Made) → Wait with_messages s w waiting → Wait by_engines s w (map as_engine waiting)
+read_wait : (s : State) (w : ℕ) (waiting : List BacklogRuns.Made) → Wait with_messages s w waiting → Wait by_engines s w (map as_engine waiting)
 read_wait s w waiting b =
     let r = backlog_lists s b.calls in
     record {
@@ -86,8 +86,8 @@ backlog_granted_in_time s e opens = record {
 pub backlog_unserved_refused : UnservedRefused with_messages
 backlog_unserved_refused s calls none =
     let r = backlog_lists s calls in
-    Lists.empty _ (omega (
+    ListsLaws.empty _ (omega (
       arith,
-      length-map (Backlog.served (Backlog.run s calls)) as_engine,
+      length-map (BacklogRuns.served (BacklogRuns.run s calls)) as_engine,
       ap (λ (l : List (Made By)). length l) (sym r.1 ∙ unserved_refused s r.0 none),
     ))

@@ -17,15 +17,15 @@ use Rattle.rules.specs.RoundRobin.{start}
 use Rattle.arbiter.specs.declared.State.{State}
 use Rattle.arbiter.specs.Questions as Questions
 use Rattle.arbiter.specs.Questions.{passed, ◌then◌, max_waiting}
-use Rattle.arbiter.specs.Questions.Laws as Asked
+use Rattle.arbiter.specs.Questions.Laws as QuestionsLaws
 use Rattle.arbiter.specs.Answers.{number, moved}
 use Rattle.arbiter.specs.Answers as Answers
 use Rattle.arbiter.specs.Answers.Laws.{opened_passed}
 use Rattle.engines.specs.declared.Engine.TheVariants.{Scan}
 use Rattle.engines.specs.Calls.Laws.{opens_allowed}
 use Rattle.backlog.specs.Calls.{arrived, requests}
-use Rattle.backlog.specs.Calls.Laws as Laws
-use Rattle.backlog.specs.Runs as Backlog
+use Rattle.backlog.specs.Calls.Laws as BacklogCallsLaws
+use Rattle.backlog.specs.Runs as BacklogRuns
 use Rattle.fairness.specs.Waiting as Waiting
 use Rattle.fairness.specs.Waiting.{By, Made, cycle, asks, by_engines, Each, Serves, Wait}
 use Rattle.fairness.specs.Backlog.{as_engine, has_message, with_messages, BacklogGrantedWithin}
@@ -36,7 +36,7 @@ use Rattle.fairness.proofs.BacklogCalls.{message_asks, grants_within, made, verd
 -- a state that the plain scan serves: whatever an engine serves, it does
 module _ (s : State) (opens : Serves Scan s) where
   -- a call with one message that comes for each station
-  abbrev filling : List ℕ → Backlog.Call
+  abbrev filling : List ℕ → BacklogRuns.Call
   filling waiting = record {
     engine = Scan;
     arrivals = ones s.width;
@@ -46,11 +46,11 @@ module _ (s : State) (opens : Serves Scan s) where
   }
 
   -- k of them, each of which finds the numbers that the one before left
-  abbrev fillings : ℕ → State → List ℕ → List Backlog.Call
+  abbrev fillings : ℕ → State → List ℕ → List BacklogRuns.Call
   fillings zero q waiting = []
   fillings (suc k) q waiting = let o = (made q (filling waiting)).left in filling waiting ∷ fillings k o.answer.state o.waiting
 
-  finds : (k : ℕ) (q : State) (waiting : List ℕ) → Backlog.Finds waiting (Backlog.run q (fillings k q waiting))
+  finds : (k : ℕ) (q : State) (waiting : List ℕ) → BacklogRuns.Finds waiting (BacklogRuns.run q (fillings k q waiting))
   finds zero q waiting = tt
   finds (suc k) q waiting = let o = (made q (filling waiting)).left in (refl, finds k o.answer.state o.waiting)
 
@@ -61,32 +61,32 @@ module _ (s : State) (opens : Serves Scan s) where
 
   -- such a call, with head h before it
   module _ (h : Head) (head : good s Scan opens h) (k : ℕ) (waiting : List ℕ) (room : Room (suc k) waiting) where
-    abbrev here : Backlog.Made
+    abbrev here : BacklogRuns.Made
     here = made (moved s h) (filling waiting)
 
     abbrev numbers : List ℕ
     numbers = arrived waiting (ones s.width)
 
     size : length numbers ≡ s.width
-    size = Laws.arrived_length waiting (ones s.width) ∙ room.long
+    size = BacklogCallsLaws.arrived_length waiting (ones s.width) ∙ room.long
 
     -- they are one more each
     one_more : (w : ℕ) → w < s.width → get_or numbers w 0 ≡ get_or waiting w 0 + 1
     one_more w l =
         omega (
           arith,
-          Laws.arrived_at waiting (ones s.width) (length-replicate {A = ℕ} s.width 1 ∙ sym room.long) w,
+          BacklogCallsLaws.arrived_at waiting (ones s.width) (length-replicate {A = ℕ} s.width 1 ∙ sym room.long) w,
           get_or-replicate {A = ℕ} s.width w 1 0 l,
         )
 
     -- so all ask
     all_ask : requests numbers ≡ ones s.width
     all_ask =
-        let long = Laws.requests_length numbers ∙ size in
+        let long = BacklogCallsLaws.requests_length numbers ∙ size in
         ext_get_or 0 _ _ (long ∙ sym (length-replicate {A = ℕ} s.width 1))
         (λ w l.
         let station : w < s.width = omega (arith, long) in
-        Laws.requests_at numbers w ∙ ap bit (lt-ltb 0 _ (omega (arith, one_more w station))) ∙ sym (get_or-replicate {A = ℕ} s.width w 1 0 station))
+        BacklogCallsLaws.requests_at numbers w ∙ ap bit (lt-ltb 0 _ (omega (arith, one_more w station))) ∙ sym (get_or-replicate {A = ℕ} s.width w 1 0 station))
 
     -- and the questions pass
     answers : verdict (moved s h) (filling waiting) ≡ passed
@@ -95,20 +95,20 @@ module _ (s : State) (opens : Serves Scan s) where
         let before = Questions.width n then Questions.picks n s.picks in
         let within : (w : ℕ) → w < length numbers → get_or numbers w 0 ≤ max_waiting =
         λ w l. omega (arith, size, one_more w (omega (arith, size)), room.within w (omega (arith, size))) in
-        Asked.then_passed (before then Questions.head n h) _
-        (Asked.head_moves before n s.head h (opened_passed _ n s.picks s.head opens) head)
+        QuestionsLaws.then_passed (before then Questions.head n h) _
+        (QuestionsLaws.head_moves before n s.head h (opened_passed _ n s.picks s.head opens) head)
         (rw (
           eq-eqb (length (ones n)) n (length-replicate {A = ℕ} n 1),
           eq-eqb (length (replicate n 0)) n (length-replicate {A = ℕ} n 0),
           eq-eqb (length waiting) n room.long,
         )
-        (Laws.overflow_passes numbers within))
+        (BacklogCallsLaws.overflow_passes numbers within))
 
     -- read as the engine's, it is the call with all requests
     is : as_engine here ≡ once cycle s (call s Scan opens) (after s Scan opens) h
     is =
         let c : List ℕ → Waiting.Call By = λ asked. record (call s Scan opens) { requests = asked } in
-        ap (λ (left : Answers.Outcome). record { call = c (requests numbers); left = left }) (sym (engines (moved s h) (filling waiting) answers))
+        ap (λ (left : Answers.Effect). record { call = c (requests numbers); left = left }) (sym (engines (moved s h) (filling waiting) answers))
         ∙ ap {B = Made By} (λ asked. record { call = c asked; left = cycle (c asked).how (moved s h) asked (c asked).grants }) all_ask
 
     -- and k more may come after it
@@ -117,12 +117,12 @@ module _ (s : State) (opens : Serves Scan s) where
         let e = takes (moved s h) (filling waiting) answers in
         let grants = here.left.grants in
         record {
-          long = ap (λ (l : List ℕ). length l) e ∙ Laws.taken_length numbers grants ∙ size;
+          long = ap (λ (l : List ℕ). length l) e ∙ BacklogCallsLaws.taken_length numbers grants ∙ size;
           within = λ w l.
               omega (
                 arith,
                 ap (λ (l : List ℕ). get_or l w 0) e,
-                Laws.taken_at numbers grants w,
+                BacklogCallsLaws.taken_at numbers grants w,
                 one_more w l,
                 room.within w l,
               );
@@ -130,8 +130,8 @@ module _ (s : State) (opens : Serves Scan s) where
 
   -- all of them are served, and are read as the calls of Sharpness
   all_read : (k : ℕ) (h : Head) (waiting : List ℕ) → good s Scan opens h → Room k waiting
-      → let made = Backlog.run (moved s h) (fillings k (moved s h) waiting) in
-      (Backlog.served made ≡ made) × (map as_engine made ≡ repeated cycle s (call s Scan opens) (after s Scan opens) h k)
+      → let made = BacklogRuns.run (moved s h) (fillings k (moved s h) waiting) in
+      (BacklogRuns.served made ≡ made) × (map as_engine made ≡ repeated cycle s (call s Scan opens) (after s Scan opens) h k)
   all_read zero h waiting g room = (refl, refl)
   all_read (suc k) h waiting g room =
       let m = here h g k waiting room in
@@ -140,7 +140,7 @@ module _ (s : State) (opens : Serves Scan s) where
       let z : number m.left.answer ≡ 0 = ap (λ (u : Made By). number u.left.answer) e ∙ r.0 in
       let to : m.left.answer.state ≡ moved s (after s Scan opens h) = ap (λ (u : Made By). u.left.answer.state) e ∙ r.1 in
       let rest = rw (← to) at (all_read k (after s Scan opens h) m.left.waiting r.2 (room_left h g k waiting room)) in (
-        rw (eq-eqb _ 0 z) (ap {B = List Backlog.Made} (λ l. m ∷ l) rest.0),
+        rw (eq-eqb _ 0 z) (ap {B = List BacklogRuns.Made} (λ l. m ∷ l) rest.0),
         rw (e, rest.1) refl,
       )
 
@@ -148,8 +148,8 @@ module _ (s : State) (opens : Serves Scan s) where
   abbrev none : List ℕ
   none = replicate s.width 0
 
-  abbrev filled : ℕ → List Backlog.Made
-  filled k = Backlog.run s (fillings k s none)
+  abbrev filled : ℕ → List BacklogRuns.Made
+  filled k = BacklogRuns.run s (fillings k s none)
 
   -- k cycles that make fewer than N picks: the numbers stay far below the most
   few : (k : ℕ) → k * s.picks < s.width → suc k ≤ max_waiting
@@ -158,7 +158,7 @@ module _ (s : State) (opens : Serves Scan s) where
       omega (arith, l, a.most, le-mul_of_pos_right k a.picked)
 
   module _ (k : ℕ) (within : k ≤ max_waiting) where
-    filled_read : (Backlog.served (filled k) ≡ filled k) × (map as_engine (filled k) ≡ waits s Scan opens k)
+    filled_read : (BacklogRuns.served (filled k) ≡ filled k) × (map as_engine (filled k) ≡ waits s Scan opens k)
     filled_read =
         all_read k s.head none (first_good s Scan opens)
         (record {
@@ -167,7 +167,7 @@ module _ (s : State) (opens : Serves Scan s) where
         })
 
     -- each of them finds the numbers that the one before left
-    filled_finds : Backlog.Finds none (Backlog.served (filled k))
+    filled_finds : BacklogRuns.Finds none (BacklogRuns.served (filled k))
     filled_finds = rw filled_read.0 (finds k s none)
 
     filled_length : length (filled k) ≡ k
@@ -179,7 +179,7 @@ module _ (s : State) (opens : Serves Scan s) where
     filled_each w each = (each_map as_engine (asks w) (has_message w) (message_asks w) (filled k)).1 (rw filled_read.1 each)
 
     -- and is granted in the same ones
-    filled_grants : (w : ℕ) → count (Backlog.granted w) (filled k) ≡ count (Waiting.granted w) (waits s Scan opens k)
+    filled_grants : (w : ℕ) → count (BacklogRuns.granted w) (filled k) ≡ count (Waiting.granted w) (waits s Scan opens k)
     filled_grants w = sym (count_map as_engine (Waiting.granted w) (filled k)) ∙ ap (count (Waiting.granted w)) filled_read.1
 
     -- so whoever waits in those waits in these
@@ -195,7 +195,7 @@ module _ (s : State) (opens : Serves Scan s) where
 
   -- not all waits are shorter than k
   pub longest_backlog_wait : (k : ℕ) → k * s.picks < s.width
-      → ((w : ℕ) (waiting : List Backlog.Made) → Wait with_messages s w waiting → length waiting < k)
+      → ((w : ℕ) (waiting : List BacklogRuns.Made) → Wait with_messages s w waiting → length waiting < k)
       → ⊥
   longest_backlog_wait k l claim =
       let within : k ≤ max_waiting = omega (arith, few k l) in
@@ -217,7 +217,7 @@ module _ (s : State) (opens : Serves Scan s) where
 
 -- two stations, one pick: one waits while the other is granted
 pub backlog_other_once : (times : ℕ)
-    → ((s : State) (w : ℕ) (waiting : List Backlog.Made) → Wait with_messages s w waiting → (v : ℕ) → count (Backlog.granted v) waiting < times) → 2 ≤ times
+    → ((s : State) (w : ℕ) (waiting : List BacklogRuns.Made) → Wait with_messages s w waiting → (v : ℕ) → count (BacklogRuns.granted v) waiting < times) → 2 ≤ times
 backlog_other_once times claim =
     let s = Answers.made 2 1 None in
     let r = waits_wait s Scan refl 1 (omega arith) in

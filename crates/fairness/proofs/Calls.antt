@@ -13,10 +13,10 @@ use Rattle.rules.specs.RoundRobin.{start}
 use Rattle.rules.specs.Bus as BusRule
 use Rattle.arbiter.specs.declared.Answer.{Answer}
 use Rattle.arbiter.specs.declared.State.{State}
-use Rattle.arbiter.specs.Answers.{Outcome, moved, number}
+use Rattle.arbiter.specs.Answers.{Effect, moved, number}
 use Rattle.engines.specs.Calls.Laws.{Served, rule_grants, engine_served, engine_refused}
-use Rattle.token_bus.specs.Calls.Laws as BusLaws
-use Rattle.fairness.specs.Cycles as Cycles
+use Rattle.token_bus.specs.Calls.Laws as BusCallsLaws
+use Rattle.fairness.specs.Cycles as RuleCycles
 use Rattle.fairness.specs.Cycles.{Ruled, next_head, Chain}
 use Rattle.fairness.proofs.Cycles.{Follows}
 use Rattle.fairness.specs.Waiting.{By, Call, Made, cycle, bus_cycle, run, served, asks, granted, acknowledged}
@@ -30,7 +30,7 @@ kept right next h c cs true f g = f refl
 kept right next h c cs false f g = g refl
 
 -- the served calls of a list follow one another: `serves` and `refuses` are what is known of a single call
-module _ {How : Type 0} (leaves : How → State → List ℕ → List ℕ → Outcome) (s : State) (right : Head → Made How → Type 0)
+module _ {How : Type 0} (leaves : How → State → List ℕ → List ℕ → Effect) (s : State) (right : Head → Made How → Type 0)
     (next : Head → Made How → Head)
     (serves : (h : Head) (c : Call How) → let o = leaves c.how (moved s h) c.requests c.grants in
     let made : Made How = record { call = c; left = o } in
@@ -56,7 +56,7 @@ abbrev pub Right : State → Head → Made By → Type 0
 Right s h c = Served (moved s h) c.call.requests c.left.answer c.left.written
 
 -- read as a cycle: the state's pick count, and who asks and who is granted by the bytes
-abbrev pub read : State → Made By → Cycles.Cycle
+abbrev pub read : State → Made By → RuleCycles.Cycle
 read s c = record { picks = s.picks; asks = λ w. asks w c; grants = λ w. granted w c }
 
 -- the head after it
@@ -89,7 +89,7 @@ read_follows s h (c ∷ cs) chain = (read_ruled s h c chain.0, read_follows s (h
 
 -- a served cycle of the bus, with the token before it in head h
 abbrev pub BusRight : State → Head → Made ℕ → Type 0
-BusRight s h c = BusLaws.Served (moved s h) c.call.requests c.call.how c.left
+BusRight s h c = BusCallsLaws.Served (moved s h) c.call.requests c.call.how c.left
 
 -- the token after it, as a head
 abbrev pub next_token : State → Head → Made ℕ → Head
@@ -100,8 +100,8 @@ pub bus_cycles : (s : State) (calls : List (Call ℕ)) → Chain (BusRight s) (n
 bus_cycles s calls =
     follows bus_cycle s (BusRight s) (next_token s)
     (λ h c z.
-    let r = BusLaws.cycle_served (moved s h) c.requests c.grants c.how z in
+    let r = BusCallsLaws.cycle_served (moved s h) c.requests c.grants c.how z in
     (r, ap (λ (a : Answer). a.state) r.answers))
-    (λ h c n. (BusLaws.cycle_refused (moved s h) c.requests c.grants c.how n).0)
+    (λ h c n. (BusCallsLaws.cycle_refused (moved s h) c.requests c.grants c.how n).0)
     s.head
     calls

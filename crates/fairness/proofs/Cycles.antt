@@ -11,10 +11,10 @@ use borrow.Author.Tests.{ltb-true, ltb-false}
 use Rattle.rules.specs.Head.{Head}
 use Rattle.std.specs.Prelude.{Some}
 use Rattle.rules.specs.Lists.{bit, filter, count, member, before}
-use Rattle.rules.specs.Lists.Laws as Lists
+use Rattle.rules.specs.Lists.Laws as ListsLaws
 use Rattle.rules.specs.RoundRobin.{start, order, granted, next}
-use Rattle.rules.proofs.RoundRobin.Laws as Laws
-use Rattle.rules.specs.Bus as Bus
+use Rattle.rules.proofs.RoundRobin.Laws as RoundRobinLaws
+use Rattle.rules.specs.Bus as BusRule
 use Rattle.rules.proofs.Bus.Laws as BusLaws
 use Rattle.fairness.specs.Cycles.{Cycle, Ruled, next_head, Chain, Waits, total, BoundedPicks}
 
@@ -51,7 +51,7 @@ pub all_front : (p : ℕ → Bool) (front back : List ℕ) → count p (front ++
 all_front p front back all =
     omega (
       arith,
-      Lists.count_append p front back,
+      ListsLaws.count_append p front back,
       length-append front back,
       fewer front,
       fewer back,
@@ -59,7 +59,7 @@ all_front p front back all =
   where
     fewer : (xs : List ℕ) → count p xs ≤ length xs
     fewer [] = omega arith
-    fewer (x ∷ xs) = omega (arith, Lists.bit_le (p x), fewer xs)
+    fewer (x ∷ xs) = omega (arith, ListsLaws.bit_le (p x), fewer xs)
 
 -- an order cut at the one granted last: w asks, is in the order and is not granted, so it stands behind the cut
 behind : (asks p : ℕ → Bool) (w : ℕ) (front : List ℕ) (final : ℕ) (back tail : List ℕ) → asks w ≡ true
@@ -67,12 +67,12 @@ behind : (asks p : ℕ → Bool) (w : ℕ) (front : List ℕ) (final : ℕ) (bac
     → member w (front ++ final ∷ back) ≡ true
     → count p (front ++ (final ∷ [])) + count p (before w (back ++ tail)) ≡ count p (before w (front ++ final ∷ back))
 behind asks p w front final back tail t out here =
-    let parts = both_false (member w (filter asks front)) (eqb w final || false) (sym (Lists.member_append w (filter asks front) (final ∷ [])) ∙ out) in
+    let parts = both_false (member w (filter asks front)) (eqb w final || false) (sym (ListsLaws.member_append w (filter asks front) (final ∷ [])) ∙ out) in
     let other : eqb w final ≡ false = (both_false (eqb w final) false parts.1).0 in
-    let ahead : member w front ≡ false = sym (Lists.filter_keeps asks w front t) ∙ parts.0 in
-    let later : member w back ≡ true = rw (Lists.member_append w front (final ∷ back), ahead, other) at here in
-    rw (Lists.before_right w front (final ∷ back) ahead, Lists.before_left w back tail later, other)
-    (omega (arith, Lists.count_append p front (final ∷ []), Lists.count_append p front (final ∷ before w back)))
+    let ahead : member w front ≡ false = sym (ListsLaws.filter_keeps asks w front t) ∙ parts.0 in
+    let later : member w back ≡ true = rw (ListsLaws.member_append w front (final ∷ back), ahead, other) at here in
+    rw (ListsLaws.before_right w front (final ∷ back) ahead, ListsLaws.before_left w back tail later, other)
+    (omega (arith, ListsLaws.count_append p front (final ∷ []), ListsLaws.count_append p front (final ∷ before w back)))
 
 -- a station that asks and is not granted: the cycle grants m others
 module _ (n m : ℕ) (h : Head) (asks : ℕ → Bool) (w : ℕ) (some : 0 < m) (head : start h < n) (station : w < n) (asking : asks w ≡ true)
@@ -80,17 +80,17 @@ module _ (n m : ℕ) (h : Head) (asks : ℕ → Bool) (w : ℕ) (some : 0 < m) (
   full : length (granted n m h asks) ≡ m
   full =
       let out : (asks w && ltb (count asks (before w (order n h))) m) ≡ false =
-      sym (Laws.granted_member n m h asks w (omega arith) station) ∙ passed in
+      sym (RoundRobinLaws.granted_member n m h asks w (omega arith) station) ∙ passed in
       omega (
         arith,
         ltb-false (count asks (before w (order n h))) m (rw asking at out),
-        Laws.before_count n h asks w (omega arith) station asking,
-        Laws.granted_length n m h asks,
+        RoundRobinLaws.before_count n h asks w (omega arith) station asking,
+        RoundRobinLaws.granted_length n m h asks,
       )
 
   -- the order, cut at the one granted last
-  parts : Laws.Cut n m h asks
-  parts = Laws.cut n m h asks head (omega (arith, full))
+  parts : RoundRobinLaws.Cut n m h asks
+  parts = RoundRobinLaws.cut n m h asks head (omega (arith, full))
 
   -- whoever is counted: those up to the one granted last, and those before w in the next order, are those before w in this one
   passing : (p : ℕ → Bool)
@@ -100,7 +100,7 @@ module _ (n m : ℕ) (h : Head) (asks : ℕ → Bool) (w : ℕ) (some : 0 < m) (
       rw (c.order_next, c.order_is)
       (behind asks p w c.front c.final c.back (c.front ++ (c.final ∷ [])) asking
       (rw c.granted_is at passed)
-      (rw c.order_is at (Laws.order_member n h w (omega arith) station)))
+      (rw c.order_is at (RoundRobinLaws.order_member n h w (omega arith) station)))
 
   -- so those granted, and those before w in the next order, were before w in this one
   nearer : (p : ℕ → Bool)
@@ -111,28 +111,28 @@ module _ (n m : ℕ) (h : Head) (asks : ℕ → Bool) (w : ℕ) (some : 0 < m) (
       (omega (
         arith,
         passing p,
-        Lists.count_append p (filter asks c.front) (c.final ∷ []),
-        Lists.count_append p c.front (c.final ∷ []),
-        Lists.count_filter_le p asks c.front,
+        ListsLaws.count_append p (filter asks c.front) (c.final ∷ []),
+        ListsLaws.count_append p c.front (c.final ∷ []),
+        ListsLaws.count_filter_le p asks c.front,
       ))
 
   -- where all ask, m that stood before w do so no more
   pub all_nearer : count asks (order n h) ≡ n → m + length (before w (order n (next n m h asks))) ≡ length (before w (order n h))
   all_nearer all =
       let c = parts in
-      let front = all_front asks c.front (c.final ∷ c.back) (rw c.order_is at (all ∙ sym (Laws.order_length n h (omega arith)))) in
+      let front = all_front asks c.front (c.final ∷ c.back) (rw c.order_is at (all ∙ sym (RoundRobinLaws.order_length n h (omega arith)))) in
       omega (
         arith,
         full,
         ap length c.granted_is,
         length-append (filter asks c.front) (c.final ∷ []),
-        Lists.length_filter asks c.front,
+        ListsLaws.length_filter asks c.front,
         front,
         passing (λ _. true),
-        Lists.count_all (c.front ++ (c.final ∷ [])),
+        ListsLaws.count_all (c.front ++ (c.final ∷ [])),
         length-append c.front (c.final ∷ []),
-        Lists.count_all (before w (order n (next n m h asks))),
-        Lists.count_all (before w (order n h)),
+        ListsLaws.count_all (before w (order n (next n m h asks))),
+        ListsLaws.count_all (before w (order n h)),
       )
 
 -- all that the cycles grant, one cycle after the other
@@ -154,7 +154,7 @@ module _ (n w : ℕ) (station : w < n) where
       let r = follow.0 in
       omega (
         arith,
-        Lists.count_append p (granted n c.picks h c.asks) (grantees n (next_head n h c) cs),
+        ListsLaws.count_append p (granted n c.picks h c.asks) (grantees n (next_head n h c) cs),
         nearer n c.picks h c.asks w r.some r.head station waits.0 (sym (r.granted w) ∙ waits.1) p,
         waited p cs (next_head n h c) follow.1 waits.2,
       )
@@ -167,8 +167,8 @@ module _ (n w : ℕ) (station : w < n) where
       let here = granted n c.picks h c.asks in
       omega (
         arith,
-        Lists.count_append (λ _. true) here (grantees n (next_head n h c) cs),
-        Lists.count_all here,
+        ListsLaws.count_append (λ _. true) here (grantees n (next_head n h c) cs),
+        ListsLaws.count_all here,
         full n c.picks h c.asks w r.some r.head station waits.0 (sym (r.granted w) ∙ waits.1),
         picked cs (next_head n h c) follow.1 waits.2,
       )
@@ -180,17 +180,17 @@ among n v (c ∷ cs) h follow =
     let here = granted n c.picks h c.asks in
     omega (
       arith,
-      Lists.count_append (eqb v) here (grantees n (next_head n h c) cs),
+      ListsLaws.count_append (eqb v) here (grantees n (next_head n h c) cs),
       ap bit (follow.0.granted v),
-      Lists.member_count v here,
+      ListsLaws.member_count v here,
       among n v cs (next_head n h c) follow.1,
     )
 
 at_most_once : (n : ℕ) (h : Head) (v : ℕ) → start h < n → count (eqb v) (order n h) ≤ 1
 at_most_once n h v head =
-    Lists.split (ltb v n)
-    (λ t. omega (arith, Laws.order_once n h v (omega arith) (ltb-true v n t)))
-    (λ t. omega (arith, Laws.order_outside n h v (omega arith) (ltb-false v n t)))
+    ListsLaws.split (ltb v n)
+    (λ t. omega (arith, RoundRobinLaws.order_once n h v (omega arith) (ltb-true v n t)))
+    (λ t. omega (arith, RoundRobinLaws.order_outside n h v (omega arith) (ltb-false v n t)))
 
 pub waiting_cycles : WaitingCycles
 waiting_cycles n h w [] station follow waits = record { short = omega arith; once = λ v. omega arith }
@@ -201,24 +201,24 @@ waiting_cycles n h w (c ∷ cs) station follow waits =
         arith,
         picked n w station (c ∷ cs) h follow waits,
         waited n w station (λ _. true) (c ∷ cs) h follow waits,
-        Lists.count_all (before w (order n h)),
-        Laws.before_length n h w (omega arith) station,
+        ListsLaws.count_all (before w (order n h)),
+        RoundRobinLaws.before_length n h w (omega arith) station,
       );
       once = λ v.
           omega (
             arith,
             among n v (c ∷ cs) h follow,
             waited n w station (eqb v) (c ∷ cs) h follow waits,
-            Lists.count_before_le (eqb v) w (order n h),
+            ListsLaws.count_before_le (eqb v) w (order n h),
             at_most_once n h v head,
           );
     }
 
 -- the bus: an acknowledged cycle in which w asks moves the token one on, so one station fewer stands before w
 pub bus_nearer : (n t w : ℕ) (asks : ℕ → Bool) → t < n → w < n → asks w ≡ true → eqb w t ≡ false
-    → suc (length (before w (order n (Some (Bus.next n t true asks))))) ≡ length (before w (order n (Some t)))
+    → suc (length (before w (order n (Some (BusRule.next n t true asks))))) ≡ length (before w (order n (Some t)))
 bus_nearer n t w asks token station asking other =
     let head = BusLaws.token_head n t token in
-    let r = rw (Laws.start_at t) at (Laws.order_turned n (Some t) head) in
-    let later : member w r.0 ≡ true = rw (r.1, other) at (Laws.order_member n (Some t) w (omega arith) station) in
-    rw (BusLaws.next_acknowledged n t asks (BusLaws.granted_some n t w asks token station asking), r.1, r.2, Lists.before_left w r.0 (t ∷ []) later, other)
+    let r = rw (RoundRobinLaws.start_at t) at (RoundRobinLaws.order_turned n (Some t) head) in
+    let later : member w r.0 ≡ true = rw (r.1, other) at (RoundRobinLaws.order_member n (Some t) w (omega arith) station) in
+    rw (BusLaws.next_acknowledged n t asks (BusLaws.granted_some n t w asks token station asking), r.1, r.2, ListsLaws.before_left w r.0 (t ∷ []) later, other)

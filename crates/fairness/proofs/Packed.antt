@@ -7,10 +7,10 @@ use lib.ListN.{length, replicate, length-replicate}
 use Rattle.rules.specs.Packing.{pack, unpack}
 use Rattle.arbiter.specs.declared.Answer.{Answer}
 use Rattle.arbiter.specs.declared.State.{State}
-use Rattle.arbiter.specs.Answers.{Outcome, number}
+use Rattle.arbiter.specs.Answers.{Effect, number}
 use Rattle.arbiter.specs.Answers.Laws.{writes_refused}
-use Rattle.arbiter.specs.Cycle as RoundRobin
-use Rattle.packed_scan.specs.Calls as PackedScan
+use Rattle.arbiter.specs.Cycle as RoundRobinCalls
+use Rattle.packed_scan.specs.Calls as PackedCalls
 use Rattle.packed_scan.proofs.AsScan.{served_unpacked}
 use Rattle.engines.specs.declared.Engine.TheVariants.{Scan}
 use Rattle.engines.specs.Calls.Laws.{engine_served}
@@ -20,8 +20,8 @@ use Rattle.fairness.proofs.Readings.{reading}
 
 -- a packed call
 module _ (s : State) (c : Call (Unit {0})) where
-  abbrev left : Outcome
-  left = PackedScan.cycle s c.requests c.grants
+  abbrev left : Effect
+  left = PackedCalls.cycle s c.requests c.grants
 
   abbrev made : Made (Unit {0})
   made = record { call = c; left = left }
@@ -32,12 +32,12 @@ module _ (s : State) (c : Call (Unit {0})) where
   serves n w z =
       let bytes : List ℕ = replicate s.width 0 in
       let e = served_unpacked s c.requests c.grants bytes z (length-replicate s.width 0) in
-      let r = engine_served Scan s (unpack s.width c.requests) bytes [] (ap (λ (o : Outcome). number o.answer) e ∙ z) in
-      rw (← w) (e, ap (λ (o : Outcome). o.answer.state.width) (sym e) ∙ ap (λ (a : Answer). a.state.width) r.answers)
+      let r = engine_served Scan s (unpack s.width c.requests) bytes [] (ap (λ (o : Effect). number o.answer) e ∙ z) in
+      rw (← w) (e, ap (λ (o : Effect). o.answer.state.width) (sym e) ∙ ap (λ (a : Answer). a.state.width) r.answers)
 
   -- and a refused one the state
   state_kept : (number left.answer ≡ 0 → ⊥) → left.answer.state ≡ s
-  state_kept n = (writes_refused (PackedScan.questions s.width s.picks s.head c.requests (length c.grants)) s (RoundRobin.answer s (unpack s.width c.requests)) (pack (RoundRobin.granting s (unpack s.width c.requests))) c.grants refl n).0
+  state_kept n = (writes_refused (PackedCalls.questions s.width s.picks s.head c.requests (length c.grants)) s (RoundRobinCalls.answer s (unpack s.width c.requests)) (pack (RoundRobinCalls.granting s (unpack s.width c.requests))) c.grants refl n).0
 
 pub packed_lists : PackedLists
 packed_lists s calls =

@@ -8,9 +8,9 @@ use native.Mathlib.Omega.{arith}
 use lib.Dec.{eqb}
 use borrow.Author.Tests.{eqb-true, eqb-false}
 use Rattle.rules.specs.Lists.{filter, count}
-use Rattle.rules.specs.Lists.Laws as Lists
+use Rattle.rules.specs.Lists.Laws as ListsLaws
 use Rattle.arbiter.specs.declared.State.{State}
-use Rattle.arbiter.specs.Answers.{Outcome, number}
+use Rattle.arbiter.specs.Answers.{Effect, number}
 use Rattle.fairness.specs.Waiting.{By, Call, Made, cycle, run, served, Each}
 
 -- what is counted of a list, as it is read, is counted of the list itself
@@ -43,7 +43,7 @@ module _ {K M : Type 0} (make : State → K → M) (read : M → Made By) (Good 
   serveds made = filter (λ m. eqb (number (read m).left.answer) 0) made
 
   -- what is served of a list whose first call leaves o
-  abbrev first_left : Call By → List (Call By) → Outcome → List (Made By)
+  abbrev first_left : Call By → List (Call By) → Effect → List (Made By)
   first_left k ks o =
       let rest = served (run cycle o.answer.state ks) in cond (eqb (number o.answer) 0) (record { call = k; left = o } ∷ rest) rest
 
@@ -58,7 +58,7 @@ module _ {K M : Type 0} (make : State → K → M) (read : M → Made By) (Good 
       let to = u.left.answer.state in
       let rest = serveds (runs to cs) in
       let first : Bool → List (Made By) = λ b. map read (cond b (make s c ∷ rest) rest) in
-      Lists.split (eqb (number u.left.answer) 0)
+      ListsLaws.split (eqb (number u.left.answer) 0)
       (λ t.
       let r = serves s c g (eqb-true _ 0 t) in
       let more = reading cs to r.1 in

@@ -13,22 +13,22 @@ use borrow.Author.Tests.{ltb-true, ltb-false, lt-ltb, le-ltb, eqb-true, eq-eqb}
 use Rattle.rules.specs.Head.{Head}
 use Rattle.std.specs.Prelude.{None, Some}
 use Rattle.rules.specs.Lists.{range, count, member, before}
-use Rattle.rules.specs.Lists.Laws as Lists
+use Rattle.rules.specs.Lists.Laws as ListsLaws
 use Rattle.rules.specs.RoundRobin.{start, order, granted, next}
-use Rattle.rules.proofs.RoundRobin.Laws as Laws
-use Rattle.rules.specs.Bus as Bus
+use Rattle.rules.proofs.RoundRobin.Laws as RoundRobinLaws
+use Rattle.rules.specs.Bus as BusRule
 use Rattle.rules.proofs.Bus.Laws as BusLaws
 use Rattle.arbiter.specs.declared.Answer.{Answer}
 use Rattle.arbiter.specs.declared.State.{State}
 use Rattle.arbiter.specs.Places.{Bits}
 use Rattle.arbiter.specs.Questions.{passed}
-use Rattle.arbiter.specs.Answers.{Outcome, made, moved, number}
+use Rattle.arbiter.specs.Answers.{Effect, made, moved, number}
 use Rattle.arbiter.specs.Answers.Laws.{opened_passed}
 use Rattle.engines.specs.declared.Engine.{Engine}
 use Rattle.engines.specs.declared.Engine.TheVariants.{Scan}
 use Rattle.engines.specs.Calls.Laws.{engine_served, engine_serves, nodes_fit, opens_allowed}
 use Rattle.token_bus.specs.Calls as BusCalls
-use Rattle.token_bus.specs.Calls.Laws as BusCallLaws
+use Rattle.token_bus.specs.Calls.Laws as BusCallsLaws
 use Rattle.fairness.specs.Waiting as Waiting
 use Rattle.fairness.specs.Waiting.{By, Call, Made, cycle, bus_cycle, run, served, asks, by_engines, Each, Serves, Wait, AsksUntilGranted, GrantedWithin, BusServes, acknowledged, GrantedAcknowledged}
 use Rattle.fairness.proofs.Cycles.{all_front, all_nearer, bus_nearer}
@@ -54,39 +54,39 @@ module _ (n : ℕ) where
   counted a (suc k) l = rw (asks_all a (omega arith)) (omega (arith, counted (suc a) k (omega arith)))
 
   pub order_asks : (h : Head) → start h ≤ n → count everyone (order n h) ≡ n
-  order_asks h l = Laws.order_count n h everyone l ∙ counted 0 n (omega arith)
+  order_asks h l = RoundRobinLaws.order_count n h everyone l ∙ counted 0 n (omega arith)
 
   -- so all before a station ask
   before_asks : (h : Head) (w : ℕ) → start h ≤ n → w < n → count everyone (before w (order n h)) ≡ length (before w (order n h))
   before_asks h w l station =
-      let r = Lists.before_split w (order n h) (Laws.order_member n h w l station) in
-      all_front everyone (before w (order n h)) (w ∷ r.0) (rw (← r.1) (order_asks h l ∙ sym (Laws.order_length n h l)))
+      let r = ListsLaws.before_split w (order n h) (RoundRobinLaws.order_member n h w l station) in
+      all_front everyone (before w (order n h)) (w ∷ r.0) (rw (← r.1) (order_asks h l ∙ sym (RoundRobinLaws.order_length n h l)))
 
 -- the station that stands last in the order: all others are before it
 pub last_station : (n : ℕ) (h : Head) → start h < n → (w : ℕ) × (w < n) × (length (before w (order n h)) ≡ n - 1)
 last_station n h l =
-    Lists.split (ltb 0 (start h))
+    ListsLaws.split (ltb 0 (start h))
     (λ t.
     let below : start h - 1 < start h = omega (arith, ltb-true 0 (start h) t) in (
       start h - 1,
       omega arith,
-      rw (Laws.before_low n h (start h - 1) below)
+      rw (RoundRobinLaws.before_low n h (start h - 1) below)
           (omega (
             arith,
             length-append (range (start h) (n - start h)) (range 0 (start h - 1)),
-            Lists.length_range (start h) (n - start h),
-            Lists.length_range 0 (start h - 1),
+            ListsLaws.length_range (start h) (n - start h),
+            ListsLaws.length_range 0 (start h - 1),
           )),
     ))
     (λ f.
     let zero : start h ≡ 0 = omega (arith, ltb-false 0 (start h) f) in (
       n - 1,
       omega arith,
-      rw (Laws.before_high n h (n - 1) (omega arith) (omega arith)) (omega (arith, Lists.length_range (start h) (n - 1 - start h))),
+      rw (RoundRobinLaws.before_high n h (n - 1) (omega arith) (omega arith)) (omega (arith, ListsLaws.length_range (start h) (n - 1 - start h))),
     ))
 
 -- the same call again and again: `next` is the head after it
-module _ {How : Type 0} (leaves : How → State → List ℕ → List ℕ → Outcome) (s : State) (c : Call How) (next : Head → Head) where
+module _ {How : Type 0} (leaves : How → State → List ℕ → List ℕ → Effect) (s : State) (c : Call How) (next : Head → Head) where
   abbrev pub once : Head → Made How
   once h = record { call = c; left = leaves c.how (moved s h) c.requests c.grants }
 
@@ -161,10 +161,10 @@ module _ (s : State) (e : Engine) (opens : Serves e s) where
       (length-replicate {A = ℕ} n 1) (length-replicate {A = ℕ} n 0) (ones_bits n) e opens
       (nodes_fit e n (length call.how.nodes) (length-replicate {A = ℕ} (2 * n) 0)) in
       let r = engine_served e (moved s h) call.requests call.grants call.how.nodes z in
-      let k = Laws.next_head n s.picks h (everyone n) g in (
+      let k = RoundRobinLaws.next_head n s.picks h (everyone n) g in (
         z,
         ap (λ (a : Answer). a.state) r.answers,
-        rw k.2 (omega (arith, k.1, Laws.start_at k.0)),
+        rw k.2 (omega (arith, k.1, RoundRobinLaws.start_at k.0)),
       )
 
   -- each is a cycle by the rule
@@ -189,7 +189,7 @@ module _ (s : State) (e : Engine) (opens : Serves e s) where
         let m = s.picks in
         let r = ruled h g in
         let out : member w (granted n m h (everyone n)) ≡ false =
-        Laws.granted_member n m h (everyone n) w (omega arith) station
+        RoundRobinLaws.granted_member n m h (everyone n) w (omega arith) station
         ∙ rw (asks_all n w station, before_asks n h w (omega arith) station, le-ltb (far h) m l) in (
           r.granted w ∙ out,
           all_nearer n m h (everyone n) w r.some g station (asks_all n w station) out (order_asks n h (omega arith)),
@@ -261,8 +261,8 @@ module _ (s : State) (e : Engine) (opens : Serves e s) where
       let r = ruled h g in
       let is : Waiting.granted (start h) (once cycle s call after h) ≡ true =
       r.granted (start h)
-      ∙ Laws.granted_member n s.picks h (everyone n) (start h) (omega arith) g
-      ∙ rw (asks_all n (start h) g, Laws.before_first n h g, lt-ltb 0 s.picks r.some) in
+      ∙ RoundRobinLaws.granted_member n s.picks h (everyone n) (start h) (omega arith) g
+      ∙ rw (asks_all n (start h) g, RoundRobinLaws.before_first n h g, lt-ltb 0 s.picks r.some) in
       rw is
 
 -- two stations, one pick: one waits while the other is granted
@@ -280,10 +280,10 @@ module _ (s : State) (opens : BusServes s) where
 
   -- a head that is a token
   abbrev token : Head → Type 0
-  token h = BusCalls.state s.width s.picks h ≡ passed
+  token h = BusCalls.state_questions s.width s.picks h ≡ passed
 
   abbrev bus_after : Head → Head
-  bus_after h = Some (Bus.next s.width (start h) true (everyone s.width))
+  bus_after h = Some (BusRule.next s.width (start h) true (everyone s.width))
 
   first_token : token s.head
   first_token = opened_passed _ s.width s.picks s.head opens
@@ -296,17 +296,17 @@ module _ (s : State) (opens : BusServes s) where
   bus_call_serves h g =
       let n = s.width in
       let z =
-      BusCallLaws.serves (moved s h) (ones n) (replicate n 0) 1 g
+      BusCallsLaws.serves (moved s h) (ones n) (replicate n 0) 1 g
       (length-replicate {A = ℕ} n 1) (length-replicate {A = ℕ} n 0) (ones_bits n) (omega arith) in
-      let r = BusCallLaws.cycle_served (moved s h) (ones n) (replicate n 0) 1 z in (
+      let r = BusCallsLaws.cycle_served (moved s h) (ones n) (replicate n 0) 1 z in (
         z,
         ap (λ (a : Answer). a.state) r.answers,
-        BusCallLaws.token_moves n s.picks h _ g (BusLaws.next_below n (start h) true (everyone n) r.token),
+        BusCallsLaws.token_moves n s.picks h _ g (BusLaws.next_below n (start h) true (everyone n) r.token),
       )
 
   -- each is by the bus's rule
   bus_right : (h : Head) → token h → BusRight s h (bus_once h)
-  bus_right h g = BusCallLaws.cycle_served (moved s h) (ones s.width) (replicate s.width 0) 1 (bus_call_serves h g).0
+  bus_right h g = BusCallsLaws.cycle_served (moved s h) (ones s.width) (replicate s.width 0) 1 (bus_call_serves h g).0
 
   abbrev bus_waits : ℕ → List (Made ℕ)
   bus_waits k = repeated bus_cycle s bus_call bus_after s.head k
@@ -317,14 +317,14 @@ module _ (s : State) (opens : BusServes s) where
 
     -- a cycle that grants another
     passed_by : (h : Head) → token h → 1 ≤ bus_far h → Waiting.granted w (bus_once h) ≡ false
-    unfolding Bus.granted
+    unfolding BusRule.granted
     passed_by h g l =
         let n = s.width in
         let t = start h in
         let r = bus_right h g in
         let head = BusLaws.token_head n t r.token in
         let out : member w (granted n 1 (Some t) (everyone n)) ≡ false =
-        Laws.granted_member n 1 (Some t) (everyone n) w (omega arith) station
+        RoundRobinLaws.granted_member n 1 (Some t) (everyone n) w (omega arith) station
         ∙ rw (asks_all n w station, before_asks n (Some t) w (omega arith) station, le-ltb (bus_far h) 1 l) in
         rw (r.grants, BusLaws.grants_member n t (everyone n) w station, out)
 
@@ -335,14 +335,14 @@ module _ (s : State) (opens : BusServes s) where
         let t = start h in
         let r = bus_right h g in
         let head = BusLaws.token_head n t r.token in
-        let first : before t (order n (Some t)) ≡ [] = rw (Laws.start_at t) at (Laws.before_first n (Some t) head) in
+        let first : before t (order n (Some t)) ≡ [] = rw (RoundRobinLaws.start_at t) at (RoundRobinLaws.before_first n (Some t) head) in
         let other : eqb w t ≡ false =
-        Lists.split (eqb w t)
+        ListsLaws.split (eqb w t)
         (λ e. absurd (omega (arith, ap (λ (v : ℕ). length (before v (order n (Some t)))) (eqb-true w t e), ap length first)))
         (λ f. f) in
         omega (
           arith,
-          ap (λ (u : ℕ). length (before w (order n (Some u)))) (Laws.start_at (Bus.next n t true (everyone n))),
+          ap (λ (u : ℕ). length (before w (order n (Some u)))) (RoundRobinLaws.start_at (BusRule.next n t true (everyone n))),
           bus_nearer n t w (everyone n) r.token station (asks_all n w station) other,
         )
 
@@ -355,7 +355,7 @@ module _ (s : State) (opens : BusServes s) where
   pub bus_no_sooner : (k : ℕ) → k < s.width → GrantedAcknowledged s k → ⊥
   bus_no_sooner k l claim =
       let n = s.width in
-      let t = (BusCallLaws.allowed n s.picks s.head first_token).station in
+      let t = (BusCallsLaws.allowed n s.picks s.head first_token).station in
       let r = last_station n (Some (start s.head)) (BusLaws.token_head n (start s.head) t) in
       let w = r.0 in
       let are = all_served bus_cycle s bus_call bus_after token bus_call_serves k s.head first_token in

@@ -14,10 +14,10 @@ use borrow.Author.Tests.{ltb-true, ltb-false, eqb-true, eq-eqb}
 use Rattle.rules.specs.Head.{Head}
 use Rattle.std.specs.Prelude.{Some}
 use Rattle.rules.specs.Lists.{bit, count, before}
-use Rattle.rules.specs.Lists.Laws as Lists
+use Rattle.rules.specs.Lists.Laws as ListsLaws
 use Rattle.rules.specs.RoundRobin.{start, order}
-use Rattle.rules.proofs.RoundRobin.Laws as Laws
-use Rattle.rules.specs.Bus as Bus
+use Rattle.rules.proofs.RoundRobin.Laws as RoundRobinLaws
+use Rattle.rules.specs.Bus as BusRule
 use Rattle.rules.proofs.Bus.Laws as BusLaws
 use Rattle.arbiter.specs.declared.State.{State}
 use Rattle.arbiter.specs.Questions.Laws.{Allowed}
@@ -25,7 +25,7 @@ use Rattle.arbiter.specs.Answers.Laws.{opened_passed, passed_opened}
 use Rattle.engines.specs.declared.Engine.{Engine}
 use Rattle.engines.specs.declared.Engine.TheVariants.{Scan}
 use Rattle.engines.specs.Calls.Laws.{engine_opens, opens_allowed}
-use Rattle.token_bus.specs.Calls.Laws as BusCalls
+use Rattle.token_bus.specs.Calls.Laws as BusCallsLaws
 use Rattle.fairness.specs.Cycles.{Chain, Waits, total}
 use Rattle.fairness.specs.Waiting.{By, Made, cycle, bus_cycle, run, served, asks, granted, by_engines, Each, OneLeast, Serves, UnservedRefused, Wait, ceiling, BoundedWaiting, NotTwice, AsksUntilGranted, GrantedWithin, GrantedInTime, BusServes, BusUnservedRefused, acknowledged, GrantedAcknowledged, BusBoundedWaiting}
 use Rattle.fairness.proofs.Cycles.{chain_empty, resumed, waiting_cycles, bus_nearer}
@@ -36,7 +36,7 @@ use Rattle.fairness.proofs.Sharpness.{longest_wait, no_sooner, other_once, bus_n
 -- whoever asks is a station: its byte is one of the n
 asking_station : (bytes : List ℕ) (n w : ℕ) → length bytes ≡ n → eqb (get_or bytes w 0) 1 ≡ true → w < n
 asking_station bytes n w long e =
-    Lists.split (ltb w n)
+    ListsLaws.split (ltb w n)
     (λ t. ltb-true w n t)
     (λ f.
     absurd (omega (
@@ -51,7 +51,7 @@ module _ (s : State) where
   read_waits : (w : ℕ) (cs : List (Made By)) → Each (asks w) cs → count (granted w) cs ≡ 0 → Waits w (map (read s) cs)
   read_waits w [] asking none = tt
   read_waits w (c ∷ cs) asking none =
-      Lists.split (granted w c)
+      ListsLaws.split (granted w c)
       (λ t. absurd (omega (arith, ap bit t)))
       (λ f. (asking.0, f, read_waits w cs asking.1 (omega arith)))
 
@@ -106,7 +106,7 @@ module _ (s : State) (e : Engine) (opens : Serves e s) where
   pub least_ceiling : (limit : ℕ) → (limit * s.picks < s.width → ⊥) → ceiling s.width s.picks ≤ limit
   least_ceiling limit enough =
       let some = allows.picked in
-      Lists.split (ltb limit (ceiling s.width s.picks))
+      ListsLaws.split (ltb limit (ceiling s.width s.picks))
       (λ t. absurd (enough (omega (arith, some, (le-div_iff_mul-le {x = suc limit} some).0 (ltb-true limit _ t)))))
       (λ f. omega (arith, ltb-false limit (ceiling s.width s.picks) f))
 
@@ -139,7 +139,7 @@ asks_each : (w k : ℕ) (cs : List (Made By)) → AsksUntilGranted by_engines w 
 asks_each w zero cs until none = tt
 asks_each w (suc k) [] until none = tt
 asks_each w (suc k) (c ∷ cs) until none =
-    Lists.split (granted w c)
+    ListsLaws.split (granted w c)
     (λ t. absurd (omega (arith, ap bit t)))
     (λ f. (until.0, asks_each w k cs (until.1 f) (omega arith)))
 
@@ -148,7 +148,7 @@ module _ (s : State) (e : Engine) (opens : Serves e s) where
   pub in_time : (limit : ℕ) → ceiling s.width s.picks ≤ limit → GrantedWithin by_engines s limit
   in_time limit enough calls w past first more are until =
       let within = take limit (first ∷ more) in
-      Lists.split (ltb 0 (count (granted w) within))
+      ListsLaws.split (ltb 0 (count (granted w) within))
       (λ t. inl (ltb-true 0 _ t))
       (λ f.
       let none : count (granted w) within ≡ 0 = omega (arith, ltb-false 0 (count (granted w) within) f) in
@@ -187,11 +187,11 @@ module _ (s : State) (w : ℕ) where
       let r = chain.0 in
       let station = asking_station c.call.requests n w r.asked asking.0 in
       let k = next_token s h c in
-      let at : distance k ≡ length (before w (order n (Some (Bus.next n t (acknowledged c) (λ v. asks v c))))) =
-      ap (λ (u : ℕ). length (before w (order n (Some u)))) (Laws.start_at _) in
-      Lists.split (acknowledged c)
+      let at : distance k ≡ length (before w (order n (Some (BusRule.next n t (acknowledged c) (λ v. asks v c))))) =
+      ap (λ (u : ℕ). length (before w (order n (Some u)))) (RoundRobinLaws.start_at _) in
+      ListsLaws.split (acknowledged c)
       (λ a.
-      Lists.split (granted w c)
+      ListsLaws.split (granted w c)
       (λ g. rw (a, g) (omega arith))
       (λ g.
       let other : eqb w t ≡ false = not_at_token g in
@@ -199,10 +199,10 @@ module _ (s : State) (w : ℕ) where
       (omega (
         arith,
         acknowledged_grant cs k chain.1 asking.1
-            (omega (arith, at ∙ ap (λ (b : Bool). length (before w (order n (Some (Bus.next n t b (λ v. asks v c)))))) a, bus_nearer n t w (λ v. asks v c) r.token station asking.0 other, ap bit a)),
+            (omega (arith, at ∙ ap (λ (b : Bool). length (before w (order n (Some (BusRule.next n t b (λ v. asks v c)))))) a, bus_nearer n t w (λ v. asks v c) r.token station asking.0 other, ap bit a)),
       ))))
       (λ a.
-      let stays : Bus.next n t (acknowledged c) (λ v. asks v c) ≡ t = rw a (BusLaws.next_unacknowledged n t (λ v. asks v c)) in
+      let stays : BusRule.next n t (acknowledged c) (λ v. asks v c) ≡ t = rw a (BusLaws.next_unacknowledged n t (λ v. asks v c)) in
       rw a
       (omega (
         arith,
@@ -212,7 +212,7 @@ module _ (s : State) (w : ℕ) where
     where
       not_at_token : granted w c ≡ false → eqb w (start h) ≡ false
       not_at_token g =
-          Lists.split (eqb w (start h))
+          ListsLaws.split (eqb w (start h))
           (λ i.
           let q : w ≡ start h = eqb-true w (start h) i in
           let first : get_or c.left.written w 0 ≡ 1 =
@@ -231,18 +231,18 @@ module _ (s : State) (opens : BusServes s) where
       one : (cs : List (Made ℕ)) (h : Head) → Chain (BusRight s) (next_token s) h cs → Each (asks w) cs
           → s.width ≤ count acknowledged cs → 0 < count (λ c. acknowledged c && granted w c) cs
       one [] h chain each all =
-          let a = BusCalls.allowed s.width s.picks s.head (opened_passed _ s.width s.picks s.head opens) in
+          let a = BusCallsLaws.allowed s.width s.picks s.head (opened_passed _ s.width s.picks s.head opens) in
           absurd (omega (arith, a.station))
       one (c ∷ cs) h chain each all =
           let r = chain.0 in
           let station = asking_station c.call.requests s.width w r.asked each.0 in
           let head = BusLaws.token_head s.width (start h) r.token in
           acknowledged_grant s w (c ∷ cs) h chain each
-          (omega (arith, Laws.before_length s.width (Some (start h)) w (omega arith) station))
+          (omega (arith, RoundRobinLaws.before_length s.width (Some (start h)) w (omega arith) station))
 
   bus_least : (exactly : ℕ) → GrantedAcknowledged s exactly → s.width ≤ exactly
   bus_least exactly claim =
-      Lists.split (ltb exactly s.width)
+      ListsLaws.split (ltb exactly s.width)
       (λ t. absurd (bus_no_sooner s opens exactly (ltb-true exactly s.width t) claim))
       (λ f. omega (arith, ltb-false exactly s.width f))
 

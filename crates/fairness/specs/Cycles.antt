@@ -4,7 +4,7 @@
 use Rattle.std.specs.Prelude.{ℕ, ◌+◌, ◌≤◌, ◌<◌, ◌≡◌, Bool, true, false, List, [], ◌∷◌}
 use Rattle.rules.specs.Head.{Head}
 use Rattle.rules.specs.Lists.{count, member}
-use Rattle.rules.specs.RoundRobin as Rule
+use Rattle.rules.specs.RoundRobin as RoundRobinRule
 use Rattle.rules.specs.RoundRobin.{start, next}
 
 -- a cycle: its pick count, who asks, and who is granted
@@ -17,7 +17,7 @@ pub record Cycle : Type 0 where
 pub record Ruled (n : ℕ) (h : Head) (c : Cycle) : Type 0 where
   pub some : 0 < c.picks
   pub head : start h < n
-  pub granted : (w : ℕ) → c.grants w ≡ member w (Rule.granted n c.picks h c.asks)
+  pub granted : (w : ℕ) → c.grants w ≡ member w (RoundRobinRule.granted n c.picks h c.asks)
 
 -- the head that it hands on
 abbrev pub next_head : ℕ → Head → Cycle → Head
@@ -25,8 +25,8 @@ next_head n h c = next n c.picks h c.asks
 
 -- a chain from h, a head or whatever else is handed on: each is right for the one that it gets, and hands the next one on
 abbrev pub Chain : {H C : Type 0} → (H → C → Type 0) → (H → C → H) → H → List C → Type 0
-Chain right next h [] = Unit {0}
-Chain right next h (c ∷ cs) = right h c × Chain right next (next h c) cs
+Chain right hands h [] = Unit {0}
+Chain right hands h (c ∷ cs) = right h c × Chain right hands (hands h c) cs
 
 -- station w waits: in each of them it asks and is not granted
 abbrev pub Waits : ℕ → List Cycle → Type 0

@@ -3,14 +3,14 @@
 use Rattle.std.specs.Prelude.{ℕ, ◌≡◌, List, [], map, replicate}
 use Rattle.rules.specs.Packing.{unpack}
 use Rattle.arbiter.specs.declared.State.{State}
-use Rattle.arbiter.specs.Answers.{Outcome}
-use Rattle.packed_scan.specs.Calls as PackedScan
+use Rattle.arbiter.specs.Answers.{Effect}
+use Rattle.packed_scan.specs.Calls as PackedCalls
 use Rattle.engines.specs.declared.Engine.TheVariants.{Scan}
 use Rattle.fairness.specs.Waiting.{By, Call, Made, cycle, run, served}
 
 -- what a call of the packed scan leaves; there is nothing to say of how it is made
-abbrev pub packed_cycle : Unit {0} → State → List ℕ → List ℕ → Outcome
-packed_cycle _ s requests grants = PackedScan.cycle s requests grants
+abbrev pub packed_cycle : Unit {0} → State → List ℕ → List ℕ → Effect
+packed_cycle _ s requests grants = PackedCalls.cycle s requests grants
 
 -- such a call, read as one of the plain scan: requests and grants unpacked, and the same answer. n is the width
 abbrev pub unpacked : ℕ → Made (Unit {0}) → Made By

@@ -1,13 +1,15 @@
 -- 01, "The wait rule", the user's third demand: over every list of calls, from any state, whoever asks. What a call answers and
 -- writes is what its engine promises.
 -- Assumes nothing.
-use Rattle.std.specs.Prelude.{ℕ, ◌+◌, ◌-◌, ◌/◌, ◌≤◌, ◌<◌, ◌≡◌, Bool, true, false, ◌&&◌, List, [], ◌∷◌, ◌++◌, ◌⊎◌, eqb, length, get_or, take}
+use Rattle.std.specs.Prelude.{ℕ, ◌+◌, ◌-◌, ◌/◌, ◌≤◌, ◌<◌, ◌≡◌, Bool, true, false, ◌&&◌, List, [], ◌∷◌, ◌++◌, ◌⊎◌, eqb, length, take}
+use Rattle.rules.specs.Bus as BusRule
 use Rattle.rules.specs.Lists.{filter, count}
 use Rattle.arbiter.specs.declared.State.{State}
-use Rattle.arbiter.specs.Answers.{Outcome, number}
+use Rattle.arbiter.specs.Answers.{Effect, number}
+use Rattle.arbiter.specs.Places.{one_at}
 use Rattle.engines.specs.declared.Engine.{Engine}
-use Rattle.engines.specs.Calls as Engines
-use Rattle.token_bus.specs.Calls as Bus
+use Rattle.engines.specs.Calls as EngineCalls
+use Rattle.token_bus.specs.Calls as BusCalls
 
 -- "each cycle of the list may be by any of the three", and by N1's engine: "The wait rule covers it too". With it a node buffer is
 -- lent, which holds any bytes before and which only the tree looks at
@@ -25,20 +27,20 @@ pub record Call (How : Type 0) : Type 0 where
 -- a call that was made, with what it left: its answer, and the grant buffer afterwards
 pub record Made (How : Type 0) : Type 0 where
   pub call : Call How
-  pub left : Outcome
+  pub left : Effect
 
 -- what a call leaves: "as that engine's rule above decides", by the definition that the dispatcher's contract cites
-abbrev pub cycle : By → State → List ℕ → List ℕ → Outcome
+abbrev pub cycle : By → State → List ℕ → List ℕ → Effect
 cycle by s requests grants =
-    let o = Engines.cycle by.engine s requests grants by.nodes in record { answer = o.answer; written = o.grants }
+    let o = EngineCalls.cycle by.engine s requests grants by.nodes in record { answer = o.answer; written = o.grants }
 
 -- the same of the bus, with its acknowledge byte
-abbrev pub bus_cycle : ℕ → State → List ℕ → List ℕ → Outcome
-bus_cycle acknowledge s requests grants = Bus.cycle s requests grants acknowledge
+abbrev pub bus_cycle : ℕ → State → List ℕ → List ℕ → Effect
+bus_cycle acknowledge s requests grants = BusCalls.cycle s requests grants acknowledge
 
 -- a list of calls: "Each cycle gets the state the last one returned", a refused one too. That "a refused one changes nothing" is
 -- `refused_as_given` of the crate calls
-abbrev pub run : {How : Type 0} → (How → State → List ℕ → List ℕ → Outcome) → State → List (Call How) → List (Made How)
+abbrev pub run : {How : Type 0} → (How → State → List ℕ → List ℕ → Effect) → State → List (Call How) → List (Made How)
 run leaves s [] = []
 run leaves s (c ∷ cs) =
     let o = leaves c.how s c.requests c.grants in record { call = c; left = o } ∷ run leaves o.answer.state cs
@@ -49,11 +51,11 @@ served made = filter (λ c. eqb (number c.left.answer) 0) made
 
 -- station w asks: "the call is given 1 for its wire"
 abbrev pub asks : {How : Type 0} → ℕ → Made How → Bool
-asks w c = eqb (get_or c.call.requests w 0) 1
+asks w c = one_at c.call.requests w
 
 -- station w is granted: "the grant buffer afterwards holds 1 for it"
 abbrev pub granted : {How : Type 0} → ℕ → Made How → Bool
-granted w c = eqb (get_or c.left.written w 0) 1
+granted w c = one_at c.left.written w
 
 -- A kind of list, of which the wait rule is said: what its calls are given, and what one of them is once it was made; the served ones
 -- of a list from a state; and whether station w asks in one of these, and whether it is granted
@@ -91,7 +93,7 @@ OneLeast = (claim : ℕ → Type 0) (j k : ℕ) → Least claim j → Least clai
 
 -- an engine serves a state: it opens with it
 abbrev pub Serves : Engine → State → Type 0
-Serves e s = number (Engines.opening e s.width s.picks s.head) ≡ 0
+Serves e s = number (EngineCalls.opening e s.width s.picks s.head) ≡ 0
 
 -- "A state that no engine serves gives only refusals, and nothing is then counted"
 abbrev pub UnservedRefused : Kind → Type 0
@@ -131,10 +133,10 @@ AsksUntilGranted k w (c ∷ cs) = (k.asks_in w c ≡ true) × (k.granted_in w c 
 -- sooner
 abbrev pub GrantedWithin : Kind → State → ℕ → Type 0
 GrantedWithin k s limit =
-    (calls : List k.Given) (w : ℕ) (past : List k.Done) (first : k.Done) (more : List k.Done)
-    → k.served_of s calls ≡ past ++ (first ∷ more)
-    → AsksUntilGranted k w (first ∷ more)
-    → (0 < count (k.granted_in w) (take limit (first ∷ more))) ⊎ (length (first ∷ more) < limit)
+    (calls : List k.Given) (w : ℕ) (past : List k.Done) (first : k.Done) (rest : List k.Done)
+    → k.served_of s calls ≡ past ++ (first ∷ rest)
+    → AsksUntilGranted k w (first ∷ rest)
+    → (0 < count (k.granted_in w) (take limit (first ∷ rest))) ⊎ (length (first ∷ rest) < limit)
 
 -- What follows for it: N/m rounded up of them are enough, and fewer are not
 abbrev pub GrantedInTime : Kind → Type 0
@@ -142,7 +144,7 @@ GrantedInTime k = (s : State) (e : Engine) → Serves e s → Least (GrantedWith
 
 -- the bus serves a state
 abbrev pub BusServes : State → Type 0
-BusServes s = number (Bus.opening s.width s.picks s.head) ≡ 0
+BusServes s = number (BusCalls.opening s.width s.picks s.head) ≡ 0
 
 -- of a state that it does not serve, as above
 abbrev pub BusUnservedRefused : Type 0
@@ -150,17 +152,17 @@ BusUnservedRefused = (s : State) (calls : List (Call ℕ)) → (BusServes s → 
 
 -- "An acknowledged cycle is a served one with acknowledge 1"
 abbrev pub acknowledged : Made ℕ → Bool
-acknowledged c = eqb c.call.how 1
+acknowledged c = BusRule.acknowledged c.call.how
 
 -- The bus. "Take any served cycles that follow one another, in all of which a station asks, unacknowledged ones too, and exactly"
 -- so many "of which are acknowledged. One of these" grants it
 abbrev pub GrantedAcknowledged : State → ℕ → Type 0
 GrantedAcknowledged s exactly =
-    (calls : List (Call ℕ)) (w : ℕ) (past asking rest : List (Made ℕ))
-    → served (run bus_cycle s calls) ≡ past ++ (asking ++ rest)
-    → Each (asks w) asking
-    → count acknowledged asking ≡ exactly
-    → 0 < count (λ c. acknowledged c && granted w c) asking
+    (calls : List (Call ℕ)) (w : ℕ) (past cycles rest : List (Made ℕ))
+    → served (run bus_cycle s calls) ≡ past ++ (cycles ++ rest)
+    → Each (asks w) cycles
+    → count acknowledged cycles ≡ exactly
+    → 0 < count (λ c. acknowledged c && granted w c) cycles
 
 -- for N this is true, and for no smaller number
 abbrev pub BusBoundedWaiting : Type 0

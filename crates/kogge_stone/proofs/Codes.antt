@@ -13,9 +13,9 @@ use lib.Pow.{ones_split, suc_ones}
 use borrow.Author.Tests.{ltb-true, ltb-false}
 use Rattle.rules.specs.Thermometer.{code, is_code, add}
 use Rattle.rules.proofs.Thermometer.Laws.{code_own, code_below, add_is_code, zero_is_code}
-use Rattle.rules.specs.Lists.Laws as Lists
+use Rattle.rules.specs.Lists.Laws as ListsLaws
 use Rattle.rules.specs.KoggeStone.{joined}
-use Rattle.rules.proofs.KoggeStone.Laws as Network
+use Rattle.rules.proofs.KoggeStone.Laws as KoggeStoneLaws
 use Rattle.kogge_stone.specs.Steps.{Codes}
 
 -- left * right + left + right
@@ -33,7 +33,7 @@ unfolding add
 joins full left right sum f e =
     let both = ones left + ones right in
     let own = code_own 8 full f in
-    Lists.split (ltb both (ones full))
+    ListsLaws.split (ltb both (ones full))
     (λ t.
     let few : min (ones full) both ≡ both = omega (arith, ltb-true both (ones full) t) in
     rw few (omega (arith, e, own, ltb-true (code both) (code (ones full)) (code_below both (ones full) ∙ t))))
@@ -44,15 +44,15 @@ joins full left right sum f e =
 -- joined at a distance codes stay codes
 pub joined_codes : (m d : ℕ) (codes : List ℕ) → Codes m codes → Codes m (joined m d codes)
 joined_codes m d codes all p l =
-    let u : p < length codes = omega (arith, Network.joined_length m d codes) in
-    Lists.split (ltb p d)
-    (λ t. rw (Network.joined_near m d codes p u (ltb-true p d t)) (all p u))
-    (λ f. rw (Network.joined_far m d codes p u (ltb-false p d f)) (add_is_code m (get_or codes (p - d) 0) (get_or codes p 0)))
+    let u : p < length codes = omega (arith, KoggeStoneLaws.joined_length m d codes) in
+    ListsLaws.split (ltb p d)
+    (λ t. rw (KoggeStoneLaws.joined_near m d codes p u (ltb-true p d t)) (all p u))
+    (λ f. rw (KoggeStoneLaws.joined_far m d codes p u (ltb-false p d f)) (add_is_code m (get_or codes (p - d) 0) (get_or codes p 0)))
 
 -- past the last byte a 0 is read, which is a code too
 pub every_code : (m : ℕ) (bytes : List ℕ) → Codes m bytes → (q : ℕ) → get_or bytes q 0 ≡ code (ones (get_or bytes q 0))
 every_code m bytes all q =
     code_own m _
-    (Lists.split (ltb q (length bytes))
+    (ListsLaws.split (ltb q (length bytes))
     (λ t. all q (ltb-true q (length bytes) t))
     (λ f. rw (get_or-eq_default bytes 0 (ltb-false q (length bytes) f)) (zero_is_code m)))

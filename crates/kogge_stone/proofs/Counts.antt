@@ -19,11 +19,11 @@ use Rattle.std.specs.List.{position, position_or_len}
 use Rattle.std.proofs.lemmas.List.Recursion.{is_position_or_len}
 use Rattle.rules.specs.Head.{Head}
 use Rattle.rules.specs.Lists.{bit, before}
-use Rattle.rules.specs.Lists.Laws as Lists
-use Rattle.rules.specs.RoundRobin as RoundRobin
+use Rattle.rules.specs.Lists.Laws as ListsLaws
+use Rattle.rules.specs.RoundRobin as RoundRobinRule
 use Rattle.rules.specs.RoundRobin.{start, order}
 use Rattle.rules.proofs.RoundRobin.Laws.{before_position, before_length}
-use Rattle.rules.specs.Thermometer as Thermometer
+use Rattle.rules.specs.Thermometer as ThermometerRule
 use Rattle.rules.specs.Thermometer.{code, is_code, saturated, running_codes}
 use Rattle.rules.proofs.Thermometer.Laws.{zero_ones, code_own, code_below, grants_round_robin}
 use Rattle.rules.proofs.Thermometer.Running.{running_first, codes_inputs, codes_length, code_before, ones_past, code_last}
@@ -33,13 +33,13 @@ use Rattle.rules.proofs.Pending.Laws.{more_picks}
 use Rattle.rules.proofs.Walk.Laws.{Walked}
 use Rattle.arbiter.specs.Decisions.{requested, decision, deciding, counted}
 use Rattle.arbiter.specs.Decisions.Laws.{walked}
-use Rattle.kogge_stone.specs.Steps.{station, granted}
+use Rattle.kogge_stone.specs.Steps.{station, grants}
 use Rattle.kogge_stone.proofs.Grants as Grants
 
 -- how many come before the first of some bytes that is this one
 is_before : (byte : ℕ) (bytes : List ℕ) → length (before byte bytes) ≡ position_or_len (λ b. byte == b) bytes
 is_before byte bytes =
-    is_position_or_len (λ xs. length (before byte xs)) (λ b. byte == b) refl (λ x xs. Lists.split (eqb byte x) (λ t. rw t) (λ f. rw f (omega arith))) bytes
+    is_position_or_len (λ xs. length (before byte xs)) (λ b. byte == b) refl (λ x xs. ListsLaws.split (eqb byte x) (λ t. rw t) (λ f. rw f (omega arith))) bytes
 
 module _ (m full : ℕ) (h : Head) (requests : List ℕ) (picked : 1 ≤ m) (most : ones full ≡ m) (coded : is_code 8 full ≡ true)
     (first : start h < length requests) where
@@ -53,11 +53,11 @@ module _ (m full : ℕ) (h : Head) (requests : List ℕ) (picked : 1 ≤ m) (mos
   cs = running_codes n m h asks
 
   -- the grants by the counts before the positions
-  grants_serial : granted full (start h) requests (take n cs) ≡ Thermometer.grants n m h asks
-  unfolding Thermometer.grants
+  grants_serial : grants full (start h) requests (take n cs) ≡ ThermometerRule.grants n m h asks
+  unfolding ThermometerRule.grants
   grants_serial =
-      ext_get_or 0 (granted full (start h) requests (take n cs)) (Thermometer.grants n m h asks)
-      (Grants.long full (start h) requests _ ∙ sym (Lists.length_table _ 0 n))
+      ext_get_or 0 (grants full (start h) requests (take n cs)) (ThermometerRule.grants n m h asks)
+      (Grants.long full (start h) requests _ ∙ sym (ListsLaws.length_table _ 0 n))
       (λ w l.
       let u : w < n = omega (arith, Grants.long full (start h) requests (take n cs)) in
       let own : code m ≡ full = ap code (sym most) ∙ sym (code_own 8 full coded) in
@@ -71,9 +71,9 @@ module _ (m full : ℕ) (h : Head) (requests : List ℕ) (picked : 1 ≤ m) (mos
       ) in
       Grants.at full (start h) requests (take n cs) w u
       ∙ rw (← before_position n h w u, few)
-      (sym (Lists.get_d_table (λ (v : ℕ). bit (asks v && ltb (saturated n m h asks v) m)) 0 n w u ∙ rw zero-add)))
+      (sym (ListsLaws.get_d_table (λ (v : ℕ). bit (asks v && ltb (saturated n m h asks v) m)) 0 n w u ∙ rw zero-add)))
 
-  pub grants_rule : granted full (start h) requests (take n cs) ≡ RoundRobin.grants n m h asks
+  pub grants_rule : grants full (start h) requests (take n cs) ≡ RoundRobinRule.grants n m h asks
   grants_rule = grants_serial ∙ grants_round_robin n m h asks (omega arith)
 
   abbrev total : ℕ
@@ -100,10 +100,10 @@ module _ (m full : ℕ) (h : Head) (requests : List ℕ) (picked : 1 ≤ m) (mos
   inside =
       let last : suc (n - 1) ≡ n = omega arith in
       let there : get_or later (n - 1) 0 ≡ total = sym (shifted (n - 1)) ∙ ap (λ (k : ℕ). get_or cs k 0) last in
-      omega (arith, Lists.before_first total later (n - 1) (omega (arith, many)) there)
+      omega (arith, ListsLaws.before_first total later (n - 1) (omega (arith, many)) there)
 
   reached : get_or cs (suc p) 0 ≡ total
-  reached = shifted p ∙ Lists.before_next total later (omega (arith, inside, many))
+  reached = shifted p ∙ ListsLaws.before_next total later (omega (arith, inside, many))
 
   earlier : 0 < ones total → get_or cs p 0 ≡ total → ⊥
   earlier some = at p refl
@@ -111,12 +111,12 @@ module _ (m full : ℕ) (h : Head) (requests : List ℕ) (picked : 1 ≤ m) (mos
       at : (q : ℕ) → q ≡ p → get_or cs q 0 ≡ total → ⊥
       at zero e same = omega (arith, zero_ones, ap ones (sym (ap (λ (l : List ℕ). get_or l 0 0) (codes_inputs n m h asks) ∙ running_first m 0 _) ∙ same))
       at (suc q) e same =
-          omega (arith, inside, Lists.before_first total later q (omega (arith, inside, many)) (sym (shifted q) ∙ same))
+          omega (arith, inside, ListsLaws.before_first total later q (omega (arith, inside, many)) (sym (shifted q) ∙ same))
 
   -- a station by its position
   placed : (w < n) × (length (before w (order n h)) ≡ p)
   placed =
-      Lists.split (ltb p (n - start h))
+      ListsLaws.split (ltb p (n - start h))
       (λ t.
       let low = ltb-true p (n - start h) t in
       rw t (omega arith, before_position n h (start h + p) (omega arith) ∙ rw (le-ltb (start h + p) (start h) (omega arith)) (omega arith)))
@@ -125,7 +125,7 @@ module _ (m full : ℕ) (h : Head) (requests : List ℕ) (picked : 1 ≤ m) (mos
       let k = p - (n - start h) in
       rw f (omega (arith, inside), before_position n h k (omega (arith, inside)) ∙ rw (lt-ltb k (start h) (omega (arith, inside))) (omega arith)))
 
-  read : {z : Option ℕ} {new : List ℕ} → (ones total ≡ 0 → z ≡ None) → (0 < ones total → z ≡ Some w) → new ≡ RoundRobin.grants n m h asks
+  read : {z : Option ℕ} {new : List ℕ} → (ones total ≡ 0 → z ≡ None) → (0 < ones total → z ≡ Some w) → new ≡ RoundRobinRule.grants n m h asks
       → Walked n m h asks (ones total) z new
   read none some e =
       record {
@@ -144,16 +144,16 @@ module _ (m full : ℕ) (h : Head) (requests : List ℕ) (picked : 1 ≤ m) (mos
       }
 
   -- what the steps make of these counts
-  module _ (given : List ℕ) (is : given ≡ cs) (f : ℕ) (ef : f ≡ start h) (new : List ℕ) (eg : new ≡ granted full f requests (take n given))
+  module _ (given : List ℕ) (is : given ≡ cs) (f : ℕ) (ef : f ≡ start h) (new : List ℕ) (eg : new ≡ grants full f requests (take n given))
       (c : ℕ) (ec : c ≡ ones (get_or given n 0)) where
-    bytes : new ≡ RoundRobin.grants n m h asks
+    bytes : new ≡ RoundRobinRule.grants n m h asks
     bytes = eg ∙ rw (ef, is) grants_rule
 
     sum : c ≡ ones total
     sum = ec ∙ rw is
 
     -- where nobody is counted
-    pub idles : c ≡ 0 → (deciding n h [] false ≡ decision n m h asks) × (new ≡ RoundRobin.grants n m h asks)
+    pub idles : c ≡ 0 → (deciding n h [] false ≡ decision n m h asks) × (new ≡ RoundRobinRule.grants n m h asks)
     idles none =
         (walked n m h asks picked (omega arith) (read {z = None} (λ e. refl) (λ some. absurd (omega (arith, sum))) bytes) refl, bytes)
 
@@ -165,7 +165,7 @@ module _ (m full : ℕ) (h : Head) (requests : List ℕ) (picked : 1 ≤ m) (mos
         e ∙ rw (rest, at, is, lt-ltb p (length later) (omega (arith, inside, many)))
 
     pub decides : (c ≡ 0 → ⊥) → (v : ℕ) → v ≡ station n f p → (more : Bool) → more ≡ network_cuts n m h asks
-        → (counted n h c (Some v) more ≡ decision n m h asks) × (new ≡ RoundRobin.grants n m h asks)
+        → (counted n h c (Some v) more ≡ decision n m h asks) × (new ≡ RoundRobinRule.grants n m h asks)
     decides any v ev more cut =
         let here : v ≡ w = ev ∙ rw ef in
         (rw (sum, here) (walked n m h asks picked (omega arith) (read {z = Some w} (λ e. absurd (any (sum ∙ e))) (λ some. refl) bytes) (cut ∙ network_more n m h asks (omega arith) picked ∙ sym (more_picks n m h asks (omega arith)))), bytes)

@@ -11,7 +11,7 @@ use borrow.Author.Tests.{leb-true, leb-false}
 use Rattle.rules.specs.Head.{Head}
 use Rattle.std.specs.Prelude.{None, Some, Bool}
 use Rattle.rules.specs.Lists.{range}
-use Rattle.rules.specs.Lists.Laws as Lists
+use Rattle.rules.specs.Lists.Laws as ListsLaws
 use Rattle.rules.specs.RoundRobin.{start}
 use Rattle.rules.proofs.RoundRobin.Laws.{start_none, start_at}
 use Rattle.rules.specs.KoggeStone.{distances, levels, network, levels_cut, network_cuts}
@@ -45,7 +45,7 @@ module _ (m : ℕ) (requests : List ℕ) (some : 1 ≤ m) (wires : Bits requests
     -- are codes
     pub codes_in : Codes m codes
     codes_in =
-        Lists.split (leb f (length requests))
+        ListsLaws.split (leb f (length requests))
         (λ t.
         let l = leb-true f (length requests) t in
         rw (rotated ∙ (rw start_at at (ordered (Some f) (rw start_at l)))) (inputs_codes (length requests) m (Some f) (requested requests)))

@@ -23,10 +23,10 @@ abbrev pub grant_of : ℕ → List ℕ → ℕ → ℕ → ℕ
 grant_of full requests count w = bit (requested requests w && ltb count full)
 
 -- the grants of a run of stations, of which `counts` has the count before each
-unfoldable pub granted_run : ℕ → List ℕ → List ℕ → List ℕ
-granted_run full requests counts = map (λ w. grant_of full requests (get_or counts w 0) w) (range 0 (length requests))
+unfoldable pub grants_run : ℕ → List ℕ → List ℕ → List ℕ
+grants_run full requests counts = map (λ w. grant_of full requests (get_or counts w 0) w) (range 0 (length requests))
 
 -- the grants of all by the counts before the positions
-unfoldable pub granted : ℕ → ℕ → List ℕ → List ℕ → List ℕ
-granted full first requests counts =
+unfoldable pub grants : ℕ → ℕ → List ℕ → List ℕ → List ℕ
+grants full first requests counts =
     map (λ w. grant_of full requests (get_or counts (position (length requests) first w) 0) w) (range 0 (length requests))

@@ -7,15 +7,15 @@ mod network;
 ghost use Rattle.std.specs.Prelude.{◌==◌, position, true, ◌&&◌, ◌≡◌, ◌+◌, ◌≤◌, ◌<◌, eqb, ltb, length};
 ghost use Rattle.std.specs.Int.Count.{ones};
 ghost use Rattle.rules.specs.Lists.{bit, before};
-ghost use Rattle.rules.specs.KoggeStone as Network;
-ghost use Rattle.rules.specs.RoundRobin as RoundRobin;
+ghost use Rattle.rules.specs.KoggeStone as KoggeStoneRule;
+ghost use Rattle.rules.specs.RoundRobin as RoundRobinRule;
 ghost use Rattle.rules.specs.RoundRobin.{start};
-ghost use Rattle.rules.specs.Thermometer as Rule;
+ghost use Rattle.rules.specs.Thermometer as ThermometerRule;
 ghost use Rattle.arbiter.specs.Decisions.{requested, decision};
 ghost use Rattle.arbiter.specs.Places.{Bits};
 ghost use Rattle.arbiter.specs.Questions as Questions;
 ghost use Rattle.arbiter.specs.Questions.{max_width};
-ghost use Rattle.kogge_stone.specs.Steps as Steps;
+ghost use Rattle.kogge_stone.specs.Steps as KoggeStoneSteps;
 
 use arbiter::engine::{Arbiter, RoundRobin, ServedCycle};
 use arbiter::question::{self, Verdict};
@@ -34,7 +34,7 @@ const FEW_COUNTS: usize = 65;
 pub struct KoggeStone(pub State);
 
 impl Arbiter for KoggeStone {
-    ghost questions = { Questions.state };
+    ghost questions = { Questions.state_questions };
 
     ghost state_of = { λ arbiter. arbiter.0 };
 
@@ -64,7 +64,7 @@ fn count_round(cycle: &mut ServedCycle<'_>, room: &mut [u8]) -> Decision
     requires room_bound { length cycle.old.requests.now < length room.old }
     ensures value { result ≡ decision (length cycle.old.requests.now) cycle.old.picks cycle.old.head (requested cycle.old.requests.now) }
     ensures same_reference { cycle.new.grants.ghost_name ≡ cycle.old.grants.ghost_name }
-    ensures grants_after { cycle.new.grants.now ≡ RoundRobin.grants (length cycle.old.requests.now) cycle.old.picks cycle.old.head (requested cycle.old.requests.now) }
+    ensures grants_after { cycle.new.grants.now ≡ RoundRobinRule.grants (length cycle.old.requests.now) cycle.old.picks cycle.old.head (requested cycle.old.requests.now) }
 {
     let counts = &mut room[..cycle.requests.len() + 1];
     let picks = Picks::new(cycle.picks);
@@ -83,12 +83,12 @@ fn count_round(cycle: &mut ServedCycle<'_>, room: &mut [u8]) -> Decision
 // The station whose own request brings the count to that of all is granted last; `more` is whether the network cut anything off.
 fn read_off(cycle: &mut ServedCycle<'_>, picks: Picks, counts: &[u8], more: bool) -> Decision
     requires picks_value { ones picks.code ≡ cycle.old.picks }
-    requires counts_value { counts.now ≡ Rule.running_codes (length cycle.old.requests.now) cycle.old.picks cycle.old.head (requested cycle.old.requests.now) }
+    requires counts_value { counts.now ≡ ThermometerRule.running_codes (length cycle.old.requests.now) cycle.old.picks cycle.old.head (requested cycle.old.requests.now) }
     requires counts_len { length counts.now ≡ length cycle.old.requests.now + 1 }
-    requires more_value { more ≡ Network.network_cuts (length cycle.old.requests.now) cycle.old.picks cycle.old.head (requested cycle.old.requests.now) }
+    requires more_value { more ≡ KoggeStoneRule.network_cuts (length cycle.old.requests.now) cycle.old.picks cycle.old.head (requested cycle.old.requests.now) }
     ensures value { result ≡ decision (length cycle.old.requests.now) cycle.old.picks cycle.old.head (requested cycle.old.requests.now) }
     ensures same_reference { cycle.new.grants.ghost_name ≡ cycle.old.grants.ghost_name }
-    ensures grants_after { cycle.new.grants.now ≡ RoundRobin.grants (length cycle.old.requests.now) cycle.old.picks cycle.old.head (requested cycle.old.requests.now) }
+    ensures grants_after { cycle.new.grants.now ≡ RoundRobinRule.grants (length cycle.old.requests.now) cycle.old.picks cycle.old.head (requested cycle.old.requests.now) }
 {
     let width = cycle.requests.len();
     let first = first_station(cycle.head);
@@ -117,7 +117,7 @@ fn read_off(cycle: &mut ServedCycle<'_>, picks: Picks, counts: &[u8], more: bool
 // The station at a position of the order. The model for the tests has this by itself, since an engine and its test share no code.
 fn station(width: usize, first: usize, position: usize) -> usize
     requires { first ≤ width }
-    ensures { result ≡ Steps.station width first position }
+    ensures { result ≡ KoggeStoneSteps.station width first position }
 {
     let high = width - first;
     if position < high {
@@ -132,7 +132,7 @@ fn grant_round(full: u8, first: usize, requests: &[u8], counts: &[u8], grants: &
     requires first_in_bounds { first ≤ length requests.now }
     requires counts_len { length counts.now ≡ length requests.now }
     requires grants_len { length grants.old ≡ length requests.now }
-    ensures { grants.new ≡ Steps.granted full first requests.now counts.now }
+    ensures { grants.new ≡ KoggeStoneSteps.grants full first requests.now counts.now }
 {
     let (low, high) = requests.split_at(first);
     let (high_counts, low_counts) = counts.split_at(high.len());
@@ -146,7 +146,7 @@ fn grant_round(full: u8, first: usize, requests: &[u8], counts: &[u8], grants: &
 fn grant_run(full: u8, requests: &[u8], counts: &[u8], grants: &mut [u8])
     requires counts_len { length counts.now ≡ length requests.now }
     requires grants_len { length grants.old ≡ length requests.now }
-    ensures { grants.new ≡ Steps.granted_run full requests.now counts.now }
+    ensures { grants.new ≡ KoggeStoneSteps.grants_run full requests.now counts.now }
 {
     for i in 0..requests.len() {
         grants[i] = grant(full, requests[i], counts[i]);

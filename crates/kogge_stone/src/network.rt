@@ -1,9 +1,9 @@
 // The Kogge-Stone network: codes over the positions of the order, joined at distances 1, 2, 4 and so on.
 ghost use Rattle.std.specs.Prelude.{true, ◌+◌, ◌++◌, ◌≡◌, ◌≤◌, ◌<◌, length, take, drop};
 ghost use Rattle.std.specs.Int.Count.{ones};
-ghost use Rattle.rules.specs.KoggeStone as Network;
+ghost use Rattle.rules.specs.KoggeStone as KoggeStoneRule;
 ghost use Rattle.rules.specs.RoundRobin.{start};
-ghost use Rattle.rules.specs.Thermometer as Rule;
+ghost use Rattle.rules.specs.Thermometer as ThermometerRule;
 ghost use Rattle.arbiter.specs.Decisions.{requested};
 ghost use Rattle.arbiter.specs.Places.{Bits};
 ghost use Rattle.arbiter.specs.Questions.{max_width};
@@ -28,8 +28,8 @@ pub(crate) fn run(
     requires bits { Bits requests.now }
     requires codes_len { length codes.old ≡ length requests.now }
     requires before_len { length before.old ≡ length requests.now }
-    ensures value { result ≡ Network.network_cuts (length requests.now) (ones picks.code) head (requested requests.now) }
-    ensures codes_after { codes.new ≡ Network.network (length requests.now) (ones picks.code) head (requested requests.now) }
+    ensures value { result ≡ KoggeStoneRule.network_cuts (length requests.now) (ones picks.code) head (requested requests.now) }
+    ensures codes_after { codes.new ≡ KoggeStoneRule.network (length requests.now) (ones picks.code) head (requested requests.now) }
 {
     let first = first_station(head);
     rotate(first, requests, codes);
@@ -54,8 +54,8 @@ fn join_all(picks: Picks, codes: &mut [u8], before: &mut [u8]) -> bool
     requires codes_len_bound { length codes.old ≤ max_width }
     requires codes { Codes (ones picks.code) codes.old }
     requires before_len { length before.old ≡ length codes.old }
-    ensures value { result ≡ Network.levels_cut (ones picks.code) (Network.distances (length codes.old)) codes.old }
-    ensures codes_after { codes.new ≡ Network.levels (ones picks.code) (Network.distances (length codes.old)) codes.old }
+    ensures value { result ≡ KoggeStoneRule.levels_cut (ones picks.code) (KoggeStoneRule.distances (length codes.old)) codes.old }
+    ensures codes_after { codes.new ≡ KoggeStoneRule.levels (ones picks.code) (KoggeStoneRule.distances (length codes.old)) codes.old }
 {
     // a `while`, since the distance doubles
     let mut distance: usize = 1;
@@ -74,8 +74,8 @@ fn join_all(picks: Picks, codes: &mut [u8], before: &mut [u8]) -> bool
 fn join_at(picks: Picks, distance: usize, before: &[u8], codes: &mut [u8]) -> bool
     requires codes { Codes (ones picks.code) before.now }
     requires codes_value { codes.old ≡ before.now }
-    ensures value { result ≡ Network.joined_cuts (ones picks.code) distance before.now }
-    ensures codes_after { codes.new ≡ Network.joined (ones picks.code) distance before.now }
+    ensures value { result ≡ KoggeStoneRule.joined_cuts (ones picks.code) distance before.now }
+    ensures codes_after { codes.new ≡ KoggeStoneRule.joined (ones picks.code) distance before.now }
 {
     let mut reach = 0;
     for p in distance..codes.len() {
@@ -89,9 +89,9 @@ fn join_at(picks: Picks, distance: usize, before: &[u8], codes: &mut [u8]) -> bo
 // The code of two codes' counts together. The code of a count c is 2^c - 1, so it is left * right + left + right.
 #[tactic(auto, using(crate::proofs::Codes::whole))]
 fn sum(left: u8, right: u8) -> u16
-    requires left_value { left ≡ Rule.code (ones left) }
-    requires right_value { right ≡ Rule.code (ones right) }
-    ensures { result ≡ Rule.code (ones left + ones right) }
+    requires left_value { left ≡ ThermometerRule.code (ones left) }
+    requires right_value { right ≡ ThermometerRule.code (ones right) }
+    ensures { result ≡ ThermometerRule.code (ones left + ones right) }
 {
     u16::from(left) * u16::from(right) + u16::from(left) + u16::from(right)
 }

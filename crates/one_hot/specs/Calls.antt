@@ -8,7 +8,7 @@ use Rattle.arbiter.specs.declared.State.{State}
 use Rattle.arbiter.specs.Places.{ones, first}
 use Rattle.arbiter.specs.Questions as Questions
 use Rattle.arbiter.specs.Questions.{Verdict, ◌then◌}
-use Rattle.arbiter.specs.Answers.{Outcome, moved, served, refused, if_passed, writes}
+use Rattle.arbiter.specs.Answers.{Effect, moved, served, refused, if_passed, writes}
 pub mod Laws
 
 -- the image of a head: "N bytes, all 0 for none or a single 1 at the head"
@@ -23,7 +23,7 @@ head_of bytes = first (ones 0 bytes)
 -- the questions of reading one: 1, 3, 4, 5, 8 and 10
 abbrev pub questions : ℕ → ℕ → Head → List ℕ → Verdict
 questions n m h bytes =
-    Questions.state n m h then Questions.read_length n (length bytes) then Questions.bits 0 bytes then Questions.one_hot bytes
+    Questions.state_questions n m h then Questions.read_length n (length bytes) then Questions.bits 0 bytes then Questions.one_hot bytes
 
 -- reading one "takes a state and replaces its head"
 abbrev pub read : State → List ℕ → Answer
@@ -31,6 +31,6 @@ read s bytes =
     let v = questions s.width s.picks s.head bytes in if_passed v (served (moved s (head_of bytes))) (λ refusal. refused refusal s)
 
 -- writing one "shows the head of a state"
-abbrev pub write : State → List ℕ → Outcome
+abbrev pub write : State → List ℕ → Effect
 write s former =
-    writes (Questions.write s.width s.picks s.head s.width (length former)) s (served s) (image s.width s.head) former
+    writes (Questions.write_questions s.width s.picks s.head s.width (length former)) s (served s) (image s.width s.head) former

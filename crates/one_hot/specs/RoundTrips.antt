@@ -5,16 +5,16 @@ use Rattle.std.specs.Prelude.{ℕ, ◌≡◌, List, length}
 use Rattle.arbiter.specs.declared.State.{State}
 use Rattle.arbiter.specs.Questions as Questions
 use Rattle.arbiter.specs.Answers.{number, moved, served}
-use Rattle.one_hot.specs.Calls as OneHot
+use Rattle.one_hot.specs.Calls as OneHotCalls
 
 -- the image of a state's head, read into any state that is allowed and has that width, gives it that head
 abbrev pub ImageReadBack : Type 0
 ImageReadBack =
-    (s t : State) (former : List ℕ) → number (OneHot.write s former).answer ≡ 0 → Questions.state t.width t.picks t.head ≡ Questions.passed
-    → t.width ≡ s.width → OneHot.read t (OneHot.write s former).written ≡ served (moved t s.head)
+    (s t : State) (former : List ℕ) → number (OneHotCalls.write s former).answer ≡ 0 → Questions.state_questions t.width t.picks t.head ≡ Questions.passed
+    → t.width ≡ s.width → OneHotCalls.read t (OneHotCalls.write s former).written ≡ served (moved t s.head)
 
 -- the state that an image was read into writes the same image
 abbrev pub ImageWrittenBack : Type 0
 ImageWrittenBack =
-    (s : State) (bytes former : List ℕ) → number (OneHot.read s bytes) ≡ 0 → length former ≡ length bytes
-    → let t = (OneHot.read s bytes).state in OneHot.write t former ≡ record { answer = served t; written = bytes }
+    (s : State) (bytes former : List ℕ) → number (OneHotCalls.read s bytes) ≡ 0 → length former ≡ length bytes
+    → let t = (OneHotCalls.read s bytes).state in OneHotCalls.write t former ≡ record { answer = served t; written = bytes }

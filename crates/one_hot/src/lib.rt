@@ -7,7 +7,7 @@ ghost use Rattle.arbiter.specs.Answers as Answers;
 ghost use Rattle.arbiter.specs.Decisions as Decisions;
 ghost use Rattle.arbiter.specs.Questions as Questions;
 ghost use Rattle.arbiter.specs.Questions.{◌then◌};
-ghost use Rattle.one_hot.specs.Calls as Calls;
+ghost use Rattle.one_hot.specs.Calls as OneHotCalls;
 
 use arbiter::refusal::Refusal;
 use arbiter::search::first_one;
@@ -23,7 +23,7 @@ impl OneHot {
     // and 0 1 0 1 is refused by 10 at place 3.
     #[tactic(auto, using(crate::specs::Calls::Laws::read_answered))]
     pub fn read(self, image: &[u8]) -> Answer
-        ensures { result ≡ Calls.read self.0 image.now }
+        ensures { result ≡ OneHotCalls.read self.0 image.now }
     {
         let s = self.0;
         let decided = read_head(s.width, s.picks, s.head, image);
@@ -32,8 +32,8 @@ impl OneHot {
 
     // Writes the image of the head. Asks 1, 3, 4 and 6. With 4 stations head 2 gives 0 0 1 0, and no head 0 0 0 0.
     pub fn write(self, image: &mut [u8]) -> Answer
-        ensures value { result ≡ (Calls.write self.0 image.old).answer }
-        ensures image_after { image.new ≡ (Calls.write self.0 image.old).written }
+        ensures value { result ≡ (OneHotCalls.write self.0 image.old).answer }
+        ensures image_after { image.new ≡ (OneHotCalls.write self.0 image.old).written }
     {
         let s = self.0;
         let decided = write_head(s.width, s.picks, s.head, image);
@@ -43,7 +43,7 @@ impl OneHot {
 
 // The questions of reading an image, and the head that it shows where they pass.
 fn read_head(width: usize, picks: usize, head: Head, image: &[u8]) -> Result<Decision, Refusal>
-    ensures { result ≡ (Calls.questions width picks head image.now then Ok (Decisions.headed (Calls.head_of image.now))) }
+    ensures { result ≡ (OneHotCalls.questions width picks head image.now then Ok (Decisions.headed (OneHotCalls.head_of image.now))) }
 {
     question::state(width, picks, head)?;
     question::read_length(width, image.len())?;
@@ -55,8 +55,8 @@ fn read_head(width: usize, picks: usize, head: Head, image: &[u8]) -> Result<Dec
 // The questions of writing one; where they pass it writes the image of the head, which stays.
 #[tactic(auto, using(arbiter::specs::Questions::Laws::writable), unfolding(crate::specs::Calls::image))]
 fn write_head(width: usize, picks: usize, head: Head, image: &mut [u8]) -> Result<Decision, Refusal>
-    ensures value { result ≡ (Questions.write width picks head width (length image.old) then Ok (Decisions.headed head)) }
-    ensures image_after { image.new ≡ Answers.if_passed (Questions.write width picks head width (length image.old)) (Calls.image width head) (λ _. image.old) }
+    ensures value { result ≡ (Questions.write_questions width picks head width (length image.old) then Ok (Decisions.headed head)) }
+    ensures image_after { image.new ≡ Answers.if_passed (Questions.write_questions width picks head width (length image.old)) (OneHotCalls.image width head) (λ _. image.old) }
 {
     question::write(width, picks, head, width, image.len())?;
     image.fill(0);
@@ -69,7 +69,7 @@ fn write_head(width: usize, picks: usize, head: Head, image: &mut [u8]) -> Resul
 // Question 10, has an image at most one 1, and the head that it shows where it has. The place of a refusal is that of the second 1.
 #[tactic(auto, using(crate::specs::Calls::Laws::one_hot_none, crate::specs::Calls::Laws::one_hot_single, crate::specs::Calls::Laws::one_hot_second, crate::specs::Calls::Laws::one_below))]
 fn single_one(image: &[u8]) -> Result<Head, Refusal>
-    ensures { result ≡ (Questions.one_hot image.now then Ok (Calls.head_of image.now)) }
+    ensures { result ≡ (Questions.one_hot image.now then Ok (OneHotCalls.head_of image.now)) }
 {
     let Some(one) = first_one(0, image) else {
         return Ok(None);

@@ -8,14 +8,14 @@ mod table;
 
 ghost use Rattle.std.specs.Prelude.{◌++◌, ◌≡◌, ◌*◌, ◌≤◌, ◌<◌, length, replicate, Ok};
 ghost use Rattle.rules.specs.Packing.{packed_length, pack, unpack};
-ghost use Rattle.rules.specs.RoundRobin as RoundRobin;
+ghost use Rattle.rules.specs.RoundRobin as RoundRobinRule;
 ghost use Rattle.rules.specs.RoundRobin.{start};
 ghost use Rattle.arbiter.specs.Answers as Answers;
 ghost use Rattle.arbiter.specs.Decisions.{requested, decision};
 ghost use Rattle.arbiter.specs.Places as Places;
 ghost use Rattle.arbiter.specs.Questions as Questions;
 ghost use Rattle.arbiter.specs.Questions.{◌then◌};
-ghost use Rattle.packed_scan.specs.Calls as Calls;
+ghost use Rattle.packed_scan.specs.Calls as PackedCalls;
 ghost use Rattle.packed_scan.specs.Lines.{Packed};
 
 use arbiter::engine::Arbiter;
@@ -30,7 +30,7 @@ use rules::Head;
 pub struct PackedScan(pub State);
 
 impl Arbiter for PackedScan {
-    ghost questions = { Calls.state };
+    ghost questions = { PackedCalls.state_questions };
 
     ghost state_of = { λ scan. scan.0 };
 
@@ -49,8 +49,8 @@ impl PackedScan {
     // whether more are pending. Asks 1, 3, 4, 5, 6 and 14. With 11 stations, head 8 and stations 0 and 3 asking, requests 9 0, it
     // grants 0, grants 1 0, the next head is 1, and more are pending.
     pub fn cycle(self, requests: &[u8], grants: &mut [u8]) -> Answer
-        ensures value { result ≡ (Calls.cycle self.0 requests.now grants.old).answer }
-        ensures grants_after { grants.new ≡ (Calls.cycle self.0 requests.now grants.old).written }
+        ensures value { result ≡ (PackedCalls.cycle self.0 requests.now grants.old).answer }
+        ensures grants_after { grants.new ≡ (PackedCalls.cycle self.0 requests.now grants.old).written }
     {
         let s = self.0;
         let decided = arbitrate(s.width, s.picks, s.head, requests, grants);
@@ -67,8 +67,8 @@ fn arbitrate(
     requests: &[u8],
     grants: &mut [u8],
 ) -> Result<Decision, Refusal>
-    ensures value { result ≡ (Calls.questions width picks head requests.now (length grants.old) then Ok (decision width picks head (requested (unpack width requests.now)))) }
-    ensures grants_after { grants.new ≡ Answers.if_passed (Calls.questions width picks head requests.now (length grants.old)) (pack (RoundRobin.grants width picks head (requested (unpack width requests.now)))) (λ _. grants.old) }
+    ensures value { result ≡ (PackedCalls.questions width picks head requests.now (length grants.old) then Ok (decision width picks head (requested (unpack width requests.now)))) }
+    ensures grants_after { grants.new ≡ Answers.if_passed (PackedCalls.questions width picks head requests.now (length grants.old)) (pack (RoundRobinRule.grants width picks head (requested (unpack width requests.now)))) (λ _. grants.old) }
 {
     question::cycle(width, picks, head, requests, grants.len())?;
     grants.fill(0);
@@ -82,7 +82,7 @@ fn grant(width: usize, head: Head, requests: &[u8], grants: &mut [u8]) -> Decisi
     requires packed { Packed width requests.now }
     requires grants_value { grants.old ≡ replicate (packed_length width) 0 }
     ensures value { result ≡ decision width 1 head (requested (unpack width requests.now)) }
-    ensures grants_after { grants.new ≡ pack (RoundRobin.grants width 1 head (requested (unpack width requests.now))) }
+    ensures grants_after { grants.new ≡ pack (RoundRobinRule.grants width 1 head (requested (unpack width requests.now))) }
 {
     let first = first_station(head);
     let Some(station) = first_request(first, requests) else {

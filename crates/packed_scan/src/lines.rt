@@ -2,7 +2,7 @@
 ghost use Rattle.std.specs.Prelude.{IfSome, ◌++◌, ◌≡◌, ◌+◌, ◌/◌, ◌%◌, ◌^◌, ◌<◌, length, take};
 ghost use Rattle.rules.specs.Packing as Packing;
 ghost use Rattle.arbiter.specs.Places as Places;
-ghost use Rattle.packed_scan.specs.Lines as Lines;
+ghost use Rattle.packed_scan.specs.Lines as PackedLines;
 
 use crate::table;
 use arbiter::search::first_nonzero;
@@ -20,7 +20,7 @@ pub(crate) fn next_byte(home: usize, packed: &[u8]) -> Option<usize>
 // The first set line at or after `from` in that line's byte, or none. The lines of all bytes are counted through, eight to a byte.
 pub(crate) fn first_in_byte(from: usize, packed: &[u8]) -> Option<usize>
     requires { from / 8 < length packed.now }
-    ensures { result ≡ Lines.in_byte from packed.now }
+    ensures { result ≡ PackedLines.in_byte from packed.now }
 {
     let byte = from / 8;
     let line = first_line(packed[byte], from % 8)?;
@@ -32,7 +32,7 @@ pub(crate) fn first_in_byte(from: usize, packed: &[u8]) -> Option<usize>
 #[tactic(auto, using(rules::proofs::Packing::Laws::entry_none, rules::proofs::Packing::Laws::entry_own, rules::proofs::Packing::Laws::entry))]
 fn first_line(byte: u8, start: usize) -> Option<usize>
     requires { start < 8 }
-    ensures { result ≡ Lines.listed (Packing.first_line byte start) }
+    ensures { result ≡ PackedLines.listed (Packing.first_line byte start) }
 {
     let rest = byte >> start;
     if rest == 0 {

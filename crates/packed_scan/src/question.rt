@@ -2,7 +2,7 @@
 ghost use Rattle.std.specs.Prelude.{◌≡◌, length};
 ghost use Rattle.rules.specs.Packing.{packed_length};
 ghost use Rattle.arbiter.specs.Questions as Questions;
-ghost use Rattle.packed_scan.specs.Calls as Calls;
+ghost use Rattle.packed_scan.specs.Calls as PackedCalls;
 
 use crate::lines::first_in_byte;
 use arbiter::question::{self, Verdict};
@@ -18,7 +18,7 @@ fn packed_length(width: usize) -> usize
 
 // Questions 1, 3 and 4.
 pub(crate) fn state(width: usize, picks: usize, head: Head) -> Verdict
-    ensures { result ≡ Calls.state width picks head }
+    ensures { result ≡ PackedCalls.state_questions width picks head }
 {
     question::width(width)?;
     question::one_pick(picks)?;
@@ -49,7 +49,7 @@ pub(crate) fn cycle(
     requests: &[u8],
     length: usize,
 ) -> Verdict
-    ensures { result ≡ Calls.questions width picks head requests.now length }
+    ensures { result ≡ PackedCalls.questions width picks head requests.now length }
 {
     state(width, picks, head)?;
     let stated = packed_length(width);

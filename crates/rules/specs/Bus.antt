@@ -2,15 +2,15 @@
 -- Assumes nothing.
 use Rattle.std.specs.Prelude.{ℕ, ◌+◌, ◌%◌, Bool, true, false, List, [], ◌∷◌, eqb}
 use Rattle.std.specs.Prelude.{Some}
-use Rattle.rules.specs.RoundRobin as RoundRobin
+use Rattle.rules.specs.RoundRobin as RoundRobinRule
 
 -- who is granted: the first that asks in turn order "from the token, with one pick"
 unfoldable pub granted : ℕ → ℕ → (ℕ → Bool) → List ℕ
-granted n t asks = RoundRobin.granted n 1 (Some t) asks
+granted n t asks = RoundRobinRule.granted n 1 (Some t) asks
 
 -- the grant buffer
 unfoldable pub grants : ℕ → ℕ → (ℕ → Bool) → List ℕ
-grants n t asks = RoundRobin.grants n 1 (Some t) asks
+grants n t asks = RoundRobinRule.grants n 1 (Some t) asks
 
 -- an acknowledge byte that acknowledges: "acknowledge is 1"
 abbrev pub acknowledged : ℕ → Bool
@@ -25,4 +25,4 @@ after n t false gs = t
 
 -- the next token
 unfoldable pub next : ℕ → ℕ → Bool → (ℕ → Bool) → ℕ
-next n t acknowledged asks = after n t acknowledged (granted n t asks)
+next n t ack asks = after n t ack (granted n t asks)

@@ -1,4 +1,4 @@
--- Where the priority order starts: 01's head, "a station number or none".
+-- Where the order of the stations starts: 01's head, "a station number or none".
 -- Assumes nothing.
 use Rattle.std.specs.Prelude.{ℕ, Option}
 

@@ -43,7 +43,8 @@ levels_cut m (d ∷ ds) codes = joined_cuts m d codes || levels_cut m ds (joined
 pub network_cuts : ℕ → ℕ → Head → (ℕ → Bool) → Bool
 network_cuts n m h asks = levels_cut m (distances n) (inputs n m h asks)
 
--- the counts before the positions: nobody before the first, and before every other what comes out at the position before it
+-- the counts before the positions, as codes, and one past the last: nobody before the first, and before every other what comes out at
+-- the position before it. So there are N + 1
 pub counts : ℕ → ℕ → Head → (ℕ → Bool) → List ℕ
 counts n m h asks = 0 ∷ network n m h asks
 

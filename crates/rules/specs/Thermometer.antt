@@ -1,4 +1,5 @@
--- The thermometer arbiter's rule: 01, "The thermometer arbiter".
+-- The thermometer arbiter's rule: 01, "The thermometer arbiter". The inputs and running codes at its end are shut: whoever carries them
+-- goes by the laws in Running.
 -- Assumes nothing.
 use Rattle.std.specs.Prelude.{ℕ, ◌+◌, ◌-◌, ◌^◌, min, Bool, ◌&&◌, List, [], ◌∷◌, map, ltb, leb, eqb}
 use Rattle.std.specs.Int.Count.{ones}

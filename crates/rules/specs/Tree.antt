@@ -7,7 +7,7 @@ use Rattle.rules.specs.Lists.{bit, range, marks}
 
 -- a node's value, of its two bits S1 and S0
 unfoldable pub value : Bool → Bool → ℕ
-value s1 s0 = 2 * bit s1 + bit s0
+value a b = 2 * bit a + bit b
 
 -- the S1 of a value
 unfoldable pub s1 : ℕ → Bool

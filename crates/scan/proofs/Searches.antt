@@ -11,7 +11,7 @@ use lib.Seq.{length-take-le, get_or-take}
 use Rattle.std.specs.Prelude.{Option, None, Some}
 use Rattle.arbiter.specs.Decisions.{requested}
 use Rattle.arbiter.specs.Places.{ones, first}
-use Rattle.arbiter.specs.Places.Laws as Places
+use Rattle.arbiter.specs.Places.Laws as PlacesLaws
 
 module _ (requests : List ℕ) (from to : ℕ) (room : to ≤ length requests) where
   -- a byte below the limit is the buffer's
@@ -30,7 +30,7 @@ module _ (requests : List ℕ) (from to : ℕ) (room : to ≤ length requests) w
 
   pub found : (w : ℕ) → first (ones from (take to requests)) ≡ Some w → Found w
   found w e =
-      let r = Places.found (λ b. eqb b 1) from w (take to requests) e in
+      let r = PlacesLaws.found (λ b. eqb b 1) from w (take to requests) e in
       let high : w < to = omega (arith, r.high, long) in
       record {
         low = r.low;
@@ -42,7 +42,7 @@ module _ (requests : List ℕ) (from to : ℕ) (room : to ≤ length requests) w
   -- nobody found
   pub nobody : first (ones from (take to requests)) ≡ None → (k : ℕ) → from ≤ k → k < to → requested requests k ≡ false
   nobody e k l u =
-      let free = Places.free_of {test = λ b. eqb b 1} {from = from} {bytes = take to requests} (Places.first_none _ e) in
+      let free = PlacesLaws.free_of {test = λ b. eqb b 1} {from = from} {bytes = take to requests} (PlacesLaws.first_none _ e) in
       sym (below k u) ∙ free.at k l (omega (arith, long))
 
 -- the station found is below the limit

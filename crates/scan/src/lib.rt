@@ -1,4 +1,4 @@
-// The plain scan: it walks the stations in priority order from the head and grants those that ask, until the picks are used up.
+// The plain scan: it walks the stations in order from the head and grants those that ask, until the picks are used up.
 #![tactic(auto)]
 
 ghost use Rattle.std.specs.Prelude.{◌≡◌, ◌≤◌, length};
@@ -24,7 +24,7 @@ struct Walk {
 }
 
 impl Arbiter for Scan {
-    ghost questions = { Questions.state };
+    ghost questions = { Questions.state_questions };
 
     ghost state_of = { λ scan. scan.0 };
 

@@ -10,20 +10,20 @@ use lib.ListN.{length, get_or}
 use borrow.Author.Tests.{eqb-true, eqb-false, ltb-false}
 use Rattle.rules.specs.Head.{Head}
 use Rattle.std.specs.Prelude.{None, Some, Ok, Err}
-use Rattle.rules.specs.Lists.Laws as Lists
+use Rattle.rules.specs.Lists.Laws as ListsLaws
 use Rattle.arbiter.specs.declared.Answer.{Answer}
 use Rattle.arbiter.specs.declared.State.{State}
 use Rattle.arbiter.specs.Words as Words
 use Rattle.arbiter.specs.Places.Laws.{Free, free_of}
 use Rattle.arbiter.specs.Questions as Questions
 use Rattle.arbiter.specs.Questions.{Verdict, passed, ◌then◌}
-use Rattle.arbiter.specs.Questions.Laws as Asked
+use Rattle.arbiter.specs.Questions.Laws as QuestionsLaws
 use Rattle.arbiter.specs.Answers.{made, number, number_of, served, opened}
-use Rattle.arbiter.specs.Answers.Laws as Answers
+use Rattle.arbiter.specs.Answers.Laws as AnswersLaws
 use Rattle.snapshot.specs.declared.Fields.{Fields}
-use Rattle.snapshot.specs.Calls as Snapshot
+use Rattle.snapshot.specs.Calls as SnapshotCalls
 use Rattle.snapshot.specs.Calls.{marked, fields, allowed, no_stray, questions, saved}
-use Rattle.snapshot.specs.Calls.Laws as Saved
+use Rattle.snapshot.specs.Calls.Laws as SnapshotCallsLaws
 use Rattle.snapshot.specs.RoundTrips.{SnapshotReadBack, SnapshotWrittenBack, ShortReadAlike, ShortLengthened}
 
 -- the head that fields say
@@ -37,13 +37,13 @@ record Holds (n m : ℕ) (h : Head) (bytes : List ℕ) : Type 0 where
   pub head : head_of (fields bytes) ≡ h
   pub clean : no_stray (fields bytes) ≡ passed
   pub mark : Questions.bits (length bytes - 1) bytes ≡ passed
-  pub long : length bytes ≡ Snapshot.size
+  pub long : length bytes ≡ SnapshotCalls.size
 
-two_bytes_lem : (x : ℕ) → Words.number (Snapshot.two_bytes x) ≡ x
+two_bytes_lem : (x : ℕ) → Words.number (SnapshotCalls.two_bytes x) ≡ x
 two_bytes_lem x = omega arith
 
 holds : (n m : ℕ) (h : Head) → 1 ≤ n → Holds n m h (saved (made n m h))
-unfolding fields Snapshot.long_fields
+unfolding fields SnapshotCalls.long_fields
 holds n m None l =
     record {
       width = omega (arith, two_bytes_lem (n - 1));
@@ -64,50 +64,50 @@ holds n m (Some h) l =
     }
 
 -- a state that passes 1, 3 and 4 is read from its snapshot
-read_saved : (s : State) → Asked.Allowed s.width s.picks s.head → Snapshot.read (saved s) ≡ served s
+read_saved : (s : State) → QuestionsLaws.Allowed s.width s.picks s.head → SnapshotCalls.read (saved s) ≡ served s
 read_saved s a =
     let bytes = saved s in
     let k = holds s.width s.picks s.head a.some in
     let f = fields bytes in
-    let five : Snapshot.read_length (length bytes) ≡ passed = rw k.long in
-    let state : Questions.state f.width f.picks (head_of f) ≡ passed =
-    rw (k.width, k.picks, k.head) (Asked.allows s.width s.picks s.head a) in
-    let rest = Asked.then_passed (Questions.bits (length bytes - 1) bytes) (allowed f) k.mark (Asked.then_passed _ (no_stray f) state k.clean) in
+    let five : SnapshotCalls.read_length (length bytes) ≡ passed = rw k.long in
+    let state : Questions.state_questions f.width f.picks (head_of f) ≡ passed =
+    rw (k.width, k.picks, k.head) (QuestionsLaws.allows s.width s.picks s.head a) in
+    let rest = QuestionsLaws.then_passed (Questions.bits (length bytes - 1) bytes) (allowed f) k.mark (QuestionsLaws.then_passed _ (no_stray f) state k.clean) in
     let passes : questions bytes ≡ passed =
-    Asked.then_passed (Snapshot.read_length (length bytes)) _ five
-    (sym (Saved.asked bytes (omega arith) five) ∙ rest) in
+    QuestionsLaws.then_passed (SnapshotCalls.read_length (length bytes)) _ five
+    (sym (SnapshotCallsLaws.asked bytes (omega arith) five) ∙ rest) in
     let same : served (made f.width f.picks (head_of f)) ≡ served s = rw (k.width, k.picks, k.head) in
-    Answers.passed_is (questions bytes) _ _ passes ∙ same
+    AnswersLaws.passed_is (questions bytes) _ _ passes ∙ same
 
 pub snapshot_read_back : SnapshotReadBack
 snapshot_read_back s former z =
-    let v = Questions.write s.width s.picks s.head Snapshot.size (length former) in
-    let passes : v ≡ passed = Answers.writes_passed v s (served s) (saved s) former z in
-    let a = (Asked.writable s.width s.picks s.head Snapshot.size (length former) passes).allows in
-    ap (λ o. Snapshot.read o.written) (Answers.writes_is v s (served s) (saved s) former passes) ∙ read_saved s a
+    let v = Questions.write_questions s.width s.picks s.head SnapshotCalls.size (length former) in
+    let passes : v ≡ passed = AnswersLaws.writes_passed v s (served s) (saved s) former z in
+    let a = (QuestionsLaws.writable s.width s.picks s.head SnapshotCalls.size (length former) passes).allows in
+    ap (λ o. SnapshotCalls.read o.written) (AnswersLaws.writes_is v s (served s) (saved s) former passes) ∙ read_saved s a
 
 -- what is known of a snapshot that is served
 record Served (bytes : List ℕ) : Type 0 where
-  pub read : Snapshot.read bytes ≡ served (made (fields bytes).width (fields bytes).picks (head_of (fields bytes)))
-  pub allows : Asked.Allowed (fields bytes).width (fields bytes).picks (head_of (fields bytes))
+  pub read : SnapshotCalls.read bytes ≡ served (made (fields bytes).width (fields bytes).picks (head_of (fields bytes)))
+  pub allows : QuestionsLaws.Allowed (fields bytes).width (fields bytes).picks (head_of (fields bytes))
   pub clean : (eqb (fields bytes).mark 1 || eqb (fields bytes).station 0) ≡ true
   pub mark : get_or bytes (length bytes - 1) 0 ≤ 1
 
-serves : (bytes : List ℕ) → ((i : ℕ) → get_or bytes i 0 < 256) → 1 ≤ length bytes → number (Snapshot.read bytes) ≡ 0 → Served bytes
+serves : (bytes : List ℕ) → ((i : ℕ) → get_or bytes i 0 < 256) → 1 ≤ length bytes → number (SnapshotCalls.read bytes) ≡ 0 → Served bytes
 serves bytes byte some z =
     let f = fields bytes in
     let v = questions bytes in
     let last = length bytes - 1 in
-    let passes : v ≡ passed = Answers.opened_passed v f.width f.picks (head_of f) z in
-    let five = Asked.then_served (Snapshot.read_length (length bytes)) _ passes in
-    let rest : (Questions.bits last bytes then allowed f) ≡ passed = Saved.asked bytes (byte 0) five.0 ∙ five.1 in
-    let eight = Asked.then_served (Questions.bits last bytes) (allowed f) rest in
-    let four = Asked.then_served (Questions.state f.width f.picks (head_of f)) (no_stray f) eight.1 in
-    let free : Free (ltb 1) last (length bytes) bytes = free_of (Asked.first_served _ _ eight.0) in
+    let passes : v ≡ passed = AnswersLaws.opened_passed v f.width f.picks (head_of f) z in
+    let five = QuestionsLaws.then_served (SnapshotCalls.read_length (length bytes)) _ passes in
+    let rest : (Questions.bits last bytes then allowed f) ≡ passed = SnapshotCallsLaws.asked bytes (byte 0) five.0 ∙ five.1 in
+    let eight = QuestionsLaws.then_served (Questions.bits last bytes) (allowed f) rest in
+    let four = QuestionsLaws.then_served (Questions.state_questions f.width f.picks (head_of f)) (no_stray f) eight.1 in
+    let free : Free (ltb 1) last (length bytes) bytes = free_of (QuestionsLaws.first_served _ _ eight.0) in
     record {
-      read = Answers.passed_is v _ _ passes;
-      allows = Asked.allowed f.width f.picks (head_of f) four.0;
-      clean = Asked.unless_served _ _ four.1;
+      read = AnswersLaws.passed_is v _ _ passes;
+      allows = QuestionsLaws.allowed f.width f.picks (head_of f) four.0;
+      clean = QuestionsLaws.unless_served _ _ four.1;
       mark = ltb-false 1 (get_or bytes last 0) (free.at last (omega arith) (omega arith));
     }
 
@@ -116,7 +116,7 @@ saved_marked : (x m y g : ℕ) → g ≤ 1 → (eqb g 1 || eqb y 0) ≡ true
     → saved (made (x + 1) m (marked y g)) ≡ x % 256 ∷ x / 256 ∷ m ∷ y % 256 ∷ y / 256 ∷ g ∷ []
 saved_marked x m y g low clean =
     let back : x + 1 - 1 ≡ x = omega arith in
-    Lists.split (eqb g 1)
+    ListsLaws.split (eqb g 1)
     (λ t. let one : g ≡ 1 = eqb-true g 1 t in rw (t, back, one))
     (λ n.
     let zero : g ≡ 0 = omega (arith, eqb-false g 1 n) in
@@ -132,35 +132,35 @@ high_byte x y l = omega arith
 abbrev byte_at : List ℕ → ℕ → ℕ
 byte_at bytes i = get_or bytes i 0
 
-saved_held : (bytes : List ℕ) → ((i : ℕ) → get_or bytes i 0 < 256) → length bytes ≡ Snapshot.size → get_or bytes 5 0 ≤ 1
-    → let f = Snapshot.long_fields bytes in
+saved_held : (bytes : List ℕ) → ((i : ℕ) → get_or bytes i 0 < 256) → length bytes ≡ SnapshotCalls.size → get_or bytes 5 0 ≤ 1
+    → let f = SnapshotCalls.long_fields bytes in
     (eqb f.mark 1 || eqb f.station 0) ≡ true → saved (made f.width f.picks (head_of f)) ≡ bytes
-unfolding Snapshot.long_fields
+unfolding SnapshotCalls.long_fields
 saved_held bytes byte e low clean =
     let x = Words.number (byte_at bytes 0 ∷ byte_at bytes 1 ∷ []) in
     let y = Words.number (byte_at bytes 3 ∷ byte_at bytes 4 ∷ []) in
     let same : (x % 256 ∷ x / 256 ∷ byte_at bytes 2 ∷ y % 256 ∷ y / 256 ∷ byte_at bytes 5 ∷ []) ≡ (byte_at bytes 0 ∷ byte_at bytes 1 ∷ byte_at bytes 2 ∷ byte_at bytes 3 ∷ byte_at bytes 4 ∷ byte_at bytes 5 ∷ []) =
     rw (low_byte (byte_at bytes 0) (byte_at bytes 1) (byte 0), high_byte (byte_at bytes 0) (byte_at bytes 1) (byte 0), low_byte (byte_at bytes 3) (byte_at bytes 4) (byte 3), high_byte (byte_at bytes 3) (byte_at bytes 4) (byte 3)) in
-    saved_marked x (byte_at bytes 2) y (byte_at bytes 5) low clean ∙ same ∙ sym (Saved.six bytes e)
+    saved_marked x (byte_at bytes 2) y (byte_at bytes 5) low clean ∙ same ∙ sym (SnapshotCallsLaws.six bytes e)
 
 pub snapshot_written_back : SnapshotWrittenBack
 snapshot_written_back bytes former byte long z e =
     let k = serves bytes byte (omega arith) z in
     let f = fields bytes in
     let s = made f.width f.picks (head_of f) in
-    let six : f ≡ Snapshot.long_fields bytes = Saved.fields_long bytes long in
+    let six : f ≡ SnapshotCalls.long_fields bytes = SnapshotCallsLaws.fields_long bytes long in
     let last : length bytes - 1 ≡ 5 = omega arith in
     let same : saved s ≡ bytes = rw six (saved_held bytes byte long (rw last at k.mark) (rw six at k.clean)) in
     rw k.read
-    (Answers.writes_is (Questions.write s.width s.picks s.head Snapshot.size (length former)) s (served s) (saved s) former
-    (Asked.writes f.width f.picks (head_of f) Snapshot.size (length former) k.allows e)
+    (AnswersLaws.writes_is (Questions.write_questions s.width s.picks s.head SnapshotCalls.size (length former)) s (served s) (saved s) former
+    (QuestionsLaws.writes f.width f.picks (head_of f) SnapshotCalls.size (length former) k.allows e)
     ∙ rw same)
 
 pub short_read_alike : ShortReadAlike
 short_read_alike bytes byte short z =
     let k = serves bytes byte (omega arith) z in
     let f = fields bytes in
-    ap (λ (a : Answer). Snapshot.read (saved a.state)) k.read
+    ap (λ (a : Answer). SnapshotCalls.read (saved a.state)) k.read
     ∙ read_saved (made f.width f.picks (head_of f)) k.allows
     ∙ sym k.read
 
@@ -168,8 +168,8 @@ short_read_alike bytes byte short z =
 opened_alike : (v w q : Verdict) (n m : ℕ) (h : Head) → number_of v ≡ number_of w
     → (number (opened (v then q) n m h) ≡ number (opened (w then q) n m h)) × ((opened (v then q) n m h).state ≡ (opened (w then q) n m h).state)
 opened_alike (Ok _) (Ok _) q n m h e = (refl, refl)
-opened_alike (Ok _) (Err r) q n m h e = absurd (Answers.refusal_number r (sym e))
-opened_alike (Err r) (Ok _) q n m h e = absurd (Answers.refusal_number r e)
+opened_alike (Ok _) (Err r) q n m h e = absurd (AnswersLaws.refusal_number r (sym e))
+opened_alike (Err r) (Ok _) q n m h e = absurd (AnswersLaws.refusal_number r e)
 opened_alike (Err p) (Err r) q n m h e = (e, refl)
 
 module _ (a b c d : ℕ) where
@@ -180,18 +180,18 @@ module _ (a b c d : ℕ) where
   long = a ∷ 0 ∷ b ∷ c ∷ 0 ∷ d ∷ []
 
   same_fields : fields short ≡ fields long
-  unfolding fields Snapshot.short_fields Snapshot.long_fields
+  unfolding fields SnapshotCalls.short_fields SnapshotCalls.long_fields
   same_fields =
       let wide : Words.number (a ∷ 0 ∷ []) ≡ a = omega arith in
       let far : Words.number (c ∷ 0 ∷ []) ≡ c = omega arith in
       rw (wide, far)
 
   same_mark : number_of (Questions.bits 3 short) ≡ number_of (Questions.bits 5 long)
-  same_mark = Lists.split (ltb 1 d) (λ t. rw t) (λ f. rw f)
+  same_mark = ListsLaws.split (ltb 1 d) (λ t. rw t) (λ f. rw f)
 
   -- the questions of the short one, by the fields of the long one
   short_asked : a < 256 → questions short ≡ (Questions.bits 3 short then allowed (fields long))
-  short_asked l = sym (Saved.asked short l refl) ∙ ap (λ (f : Fields). Questions.bits 3 short then allowed f) same_fields
+  short_asked l = sym (SnapshotCallsLaws.asked short l refl) ∙ ap (λ (f : Fields). Questions.bits 3 short then allowed f) same_fields
 
   long_asked : questions long ≡ (Questions.bits 5 long then allowed (fields long))
   unfolding fields

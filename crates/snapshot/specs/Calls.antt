@@ -6,10 +6,10 @@ use Rattle.std.specs.Prelude.{None, Some}
 use Rattle.arbiter.specs.declared.Answer.{Answer}
 use Rattle.arbiter.specs.declared.State.{State}
 use Rattle.arbiter.specs.declared.refusal.Refusal.TheVariants.{ReadLength, HeadRange}
-use Rattle.arbiter.specs.Words.{number}
+use Rattle.arbiter.specs.Words as Words
 use Rattle.arbiter.specs.Questions as Questions
 use Rattle.arbiter.specs.Questions.{Verdict, ◌then◌}
-use Rattle.arbiter.specs.Answers.{Outcome, made, served, opened, writes}
+use Rattle.arbiter.specs.Answers.{Effect, made, served, opened, writes}
 use Rattle.snapshot.specs.declared.Fields.{Fields}
 pub mod Laws
 pub mod Known
@@ -44,9 +44,9 @@ saved s = two_bytes (s.width - 1) ++ (s.picks ∷ head_bytes s.head)
 unfoldable pub long_fields : List ℕ → Fields
 long_fields bytes =
     record {
-      width = number (get_or bytes 0 0 ∷ get_or bytes 1 0 ∷ []) + 1;
+      width = Words.number (get_or bytes 0 0 ∷ get_or bytes 1 0 ∷ []) + 1;
       picks = get_or bytes 2 0;
-      station = number (get_or bytes 3 0 ∷ get_or bytes 4 0 ∷ []);
+      station = Words.number (get_or bytes 3 0 ∷ get_or bytes 4 0 ∷ []);
       mark = get_or bytes 5 0;
     }
 
@@ -66,11 +66,11 @@ fields bytes = cond (eqb (length bytes) short_size) (short_fields bytes) (long_f
 
 -- the head with a station and a mark
 abbrev pub marked : ℕ → ℕ → Head
-marked station mark = cond (eqb mark 1) (Some station) None
+marked station byte = cond (eqb byte 1) (Some station) None
 
 -- 5: "5 accepts a saved form of four or six bytes"
 abbrev pub read_length : ℕ → Verdict
-read_length length = Questions.refuse_unless (eqb length short_size || eqb length size) ReadLength
+read_length stated = Questions.refuse_unless (eqb stated short_size || eqb stated size) ReadLength
 
 -- 4 is "also given if byte 3 is 0 and byte 2 is not"; of six bytes it "reads both head bytes"
 abbrev pub no_stray : Fields → Verdict
@@ -78,7 +78,7 @@ no_stray f = Questions.refuse_unless (eqb f.mark 1 || eqb f.station 0) HeadRange
 
 -- 1, 3 and 4 of what a snapshot says
 abbrev pub allowed : Fields → Verdict
-allowed f = Questions.state f.width f.picks (marked f.station f.mark) then no_stray f
+allowed f = Questions.state_questions f.width f.picks (marked f.station f.mark) then no_stray f
 
 -- the questions of six bytes after 5: "8 names byte 5 in the long form, where 1 is asked next, then 3, then 4"
 abbrev pub long_questions : List ℕ → Verdict
@@ -107,5 +107,5 @@ read bytes =
     opened (questions bytes) f.width f.picks (marked f.station f.mark)
 
 -- writing one: "6 asks six"
-abbrev pub write : State → List ℕ → Outcome
-write s former = writes (Questions.write s.width s.picks s.head size (length former)) s (served s) (saved s) former
+abbrev pub write : State → List ℕ → Effect
+write s former = writes (Questions.write_questions s.width s.picks s.head size (length former)) s (served s) (saved s) former

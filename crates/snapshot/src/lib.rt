@@ -8,7 +8,7 @@ ghost use Rattle.arbiter.specs.Answers as Answers;
 ghost use Rattle.arbiter.specs.Decisions as Decisions;
 ghost use Rattle.arbiter.specs.Questions as Questions;
 ghost use Rattle.arbiter.specs.Questions.{◌then◌};
-ghost use Rattle.snapshot.specs.Calls as Calls;
+ghost use Rattle.snapshot.specs.Calls as SnapshotCalls;
 
 use arbiter::question::{self, Verdict};
 use arbiter::refusal::Refusal;
@@ -16,10 +16,10 @@ use arbiter::{Answer, Decision, State, first_station, headed};
 use rules::Head;
 
 // How long a snapshot is.
-pub const LENGTH: usize = 6;
+pub const SIZE: usize = 6;
 
 // How long the short form is.
-pub const SHORT_LENGTH: usize = 4;
+pub const SHORT_SIZE: usize = 4;
 
 // A state that is saved as a snapshot.
 #[derive(Clone, Copy)]
@@ -38,8 +38,8 @@ struct Fields {
 impl Snapshot {
     // Writes the snapshot of this state. Asks 1, 3, 4 and 6. With 4 stations, 2 picks and head 1 it is 3 0 2 1 0 1.
     pub fn write(self, snapshot: &mut [u8]) -> Answer
-        ensures value { result ≡ (Calls.write self.0 snapshot.old).answer }
-        ensures snapshot_after { snapshot.new ≡ (Calls.write self.0 snapshot.old).written }
+        ensures value { result ≡ (SnapshotCalls.write self.0 snapshot.old).answer }
+        ensures snapshot_after { snapshot.new ≡ (SnapshotCalls.write self.0 snapshot.old).written }
     {
         let s = self.0;
         let decided = save(s.width, s.picks, s.head, snapshot);
@@ -50,7 +50,7 @@ impl Snapshot {
     // 3 0 2 0 1 0 by 4. The short form 3 2 1 1 gives what 3 0 2 1 0 1 gives, and 3 2 1 2 is refused by 8 at place 3.
     #[tactic(auto, using(arbiter::specs::Answers::Laws::opens_then))]
     pub fn read(snapshot: &[u8]) -> Answer
-        ensures { result ≡ Calls.read snapshot.now }
+        ensures { result ≡ SnapshotCalls.read snapshot.now }
     {
         Answer::opened(readable(snapshot))
     }
@@ -59,7 +59,7 @@ impl Snapshot {
 impl Fields {
     // The state that they say.
     fn state(self) -> State
-        ensures { result ≡ Calls.state self }
+        ensures { result ≡ SnapshotCalls.state self }
     {
         State {
             width: self.width,
@@ -70,14 +70,14 @@ impl Fields {
 
     // The head that they say.
     fn head(self) -> Head
-        ensures { result ≡ Calls.marked self.station self.mark }
+        ensures { result ≡ SnapshotCalls.marked self.station self.mark }
     {
         (self.mark == 1).then_some(self.station)
     }
 
     // The questions about them: 1, 3 and 4, which is also asked of a station without its mark.
     fn allowed(self) -> Verdict
-        ensures { result ≡ Calls.allowed self }
+        ensures { result ≡ SnapshotCalls.allowed self }
     {
         question::state(self.width, self.picks, self.head())?;
         question::refuse_unless((self.mark == 1) | (self.station == 0), Refusal::HeadRange)
@@ -88,10 +88,10 @@ impl Fields {
 // By the questions the width is at most 1,024 and the picks at most 8, so the casts lose nothing.
 #[tactic(auto, using(arbiter::specs::Questions::Laws::writable))]
 fn save(width: usize, picks: usize, head: Head, snapshot: &mut [u8]) -> Result<Decision, Refusal>
-    ensures value { result ≡ (Questions.write width picks head Calls.size (length snapshot.old) then Ok (Decisions.headed head)) }
-    ensures snapshot_after { snapshot.new ≡ Answers.if_passed (Questions.write width picks head Calls.size (length snapshot.old)) (Calls.saved (Answers.made width picks head)) (λ _. snapshot.old) }
+    ensures value { result ≡ (Questions.write_questions width picks head SnapshotCalls.size (length snapshot.old) then Ok (Decisions.headed head)) }
+    ensures snapshot_after { snapshot.new ≡ Answers.if_passed (Questions.write_questions width picks head SnapshotCalls.size (length snapshot.old)) (SnapshotCalls.saved (Answers.made width picks head)) (λ _. snapshot.old) }
 {
-    question::write(width, picks, head, LENGTH, snapshot.len())?;
+    question::write(width, picks, head, SIZE, snapshot.len())?;
     let [width_low, width_high] = ((width - 1) as u16).to_le_bytes();
     let [station_low, station_high] = (first_station(head) as u16).to_le_bytes();
     snapshot.copy_from_slice(&[
@@ -108,7 +108,7 @@ fn save(width: usize, picks: usize, head: Head, snapshot: &mut [u8]) -> Result<D
 // The questions of reading a snapshot, and the state that it says where they pass. The width of a short form, a byte and one more, always
 // passes 1.
 fn readable(snapshot: &[u8]) -> Result<State, Refusal>
-    ensures { result ≡ (Calls.questions snapshot.now then Ok (Calls.state (Calls.fields snapshot.now))) }
+    ensures { result ≡ (SnapshotCalls.questions snapshot.now then Ok (SnapshotCalls.state (SnapshotCalls.fields snapshot.now))) }
 {
     let fields = held(snapshot)?;
     question::bits(snapshot.len() - 1, snapshot)?;
@@ -119,7 +119,7 @@ fn readable(snapshot: &[u8]) -> Result<State, Refusal>
 // Question 5, and what a snapshot of either form says where it passes.
 #[tactic(auto, using(crate::specs::Calls::Laws::held_short, crate::specs::Calls::Laws::held_long, crate::specs::Calls::Laws::word), unfolding(crate::specs::Calls::short_fields, crate::specs::Calls::long_fields))]
 fn held(snapshot: &[u8]) -> Result<Fields, Refusal>
-    ensures { result ≡ (Calls.read_length (length snapshot.now) then Ok (Calls.fields snapshot.now)) }
+    ensures { result ≡ (SnapshotCalls.read_length (length snapshot.now) then Ok (SnapshotCalls.fields snapshot.now)) }
 {
     match snapshot {
         [

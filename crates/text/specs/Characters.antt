@@ -8,6 +8,7 @@ pub mod Known
 abbrev pub line_feed : ℕ
 line_feed = 10
 
+-- what parts the words of a line
 abbrev pub space : ℕ
 space = 32
 

@@ -8,7 +8,7 @@ use std::test::Fail;
 
 // A line of a number and bits.
 fn put_line(number: usize, bits: &[u8], out: &mut Output)
-    ensures { Written out.old (Characters.decimal number ++ (32 ∷ []) ++ Characters.bits bits.now ++ (10 ∷ [])) out.new }
+    ensures { Written out.old (Characters.decimal number ++ (Characters.space ∷ []) ++ Characters.bits bits.now ++ (Characters.line_feed ∷ [])) out.new }
 {
     out.put_number(number);
     out.put(b' ');
@@ -18,7 +18,7 @@ fn put_line(number: usize, bits: &[u8], out: &mut Output)
 
 // Such a line at the start of a buffer. Answers the place after it.
 fn start_with_line(number: usize, bits: &[u8], buffer: &mut [u8]) -> usize
-    ensures { Put buffer.old 0 (Characters.decimal number ++ (32 ∷ []) ++ Characters.bits bits.now ++ (10 ∷ [])) buffer.new result }
+    ensures { Put buffer.old 0 (Characters.decimal number ++ (Characters.space ∷ []) ++ Characters.bits bits.now ++ (Characters.line_feed ∷ [])) buffer.new result }
 {
     let mut out = Output {
         bytes: buffer,

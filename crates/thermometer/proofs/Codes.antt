@@ -13,7 +13,7 @@ use lib.Dec.{eqb, leb}
 use lib.Pow.{pow_pos}
 use borrow.Author.Tests.{leb-true, leb-false}
 use Rattle.rules.specs.Lists.{range, filter}
-use Rattle.rules.specs.Lists.Laws as Lists
+use Rattle.rules.specs.Lists.Laws as ListsLaws
 use Rattle.rules.specs.Thermometer.{code, is_code, add}
 use Rattle.rules.proofs.Thermometer.Cuts.{shared, larger}
 use Rattle.rules.proofs.Thermometer.Laws.{code_own, ones_bit}
@@ -34,7 +34,7 @@ alike false true e = sym e
 alike false false e = refl
 
 all_alike : (byte : ℕ) → byte < 256 → eqb (count_trailing_zeros 8 (255 - byte)) (ones byte) ≡ eqb byte (code (ones byte))
-all_alike byte l = alike _ _ (Lists.none_of differ 0 256 byte none_differs (omega arith) (omega arith))
+all_alike byte l = alike _ _ (ListsLaws.none_of differ 0 256 byte none_differs (omega arith) (omega arith))
 
 -- a byte is a code for m if its ones are all trailing and at most m
 pub trailing_code : (m byte count : ℕ) → byte < 256 → count ≡ ones byte
@@ -56,7 +56,7 @@ whole_count c (suc (suc r)) u = absurd (omega arith)
 -- of a code, that of the picks keeps what they allow
 kept : (m k : ℕ) → bit_and (code k) (code m) ≡ code (min m k)
 kept m k =
-    Lists.split (leb k m)
+    ListsLaws.split (leb k m)
     (λ t. let few = leb-true k m t in shared k m few ∙ ap code (omega arith))
     (λ f. let many = leb-false k m f in rw and_comm (shared m k (omega arith) ∙ ap code (omega arith)))
 

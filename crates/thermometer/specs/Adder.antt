@@ -2,7 +2,7 @@
 -- Assumes nothing.
 use Rattle.std.specs.Prelude.{ℕ, ◌+◌, Bool, false, Result, Ok, Err}
 use Rattle.std.specs.Int.Count.{ones}
-use Rattle.rules.specs.Thermometer as Rule
+use Rattle.rules.specs.Thermometer as ThermometerRule
 use Rattle.arbiter.specs.declared.refusal.Refusal.{Refusal}
 use Rattle.thermometer.specs.declared.adder.Sum.{Sum}
 use Rattle.thermometer.specs.declared.adder.StepSum.{StepSum}
@@ -16,7 +16,7 @@ questions m a b = Questions.pick_count m then Questions.codes m a b
 
 -- the code of the sum, and whether anything was cut off
 abbrev pub joined : ℕ → ℕ → ℕ → Sum
-joined m a b = record { code = Rule.add m a b; cut = Rule.cuts m a b }
+joined m a b = record { code = ThermometerRule.add m a b; cut = ThermometerRule.cuts m a b }
 
 -- where no question refuses
 abbrev pub sum : ℕ → ℕ → ℕ → Result Sum Refusal
@@ -35,4 +35,4 @@ cut_of (Err refusal) = false
 
 -- a step of a running count (02, N3): the code of the sum, and that of the whole sum
 abbrev pub step : ℕ → ℕ → ℕ → StepSum
-step m a b = record { code = Rule.add m a b; whole = Rule.code (ones a + ones b) }
+step m a b = record { code = ThermometerRule.add m a b; whole = ThermometerRule.code (ones a + ones b) }

@@ -1,7 +1,8 @@
 // Thermometer codes and the saturated adder. The code of a count has that many of its lowest bits set.
 ghost use Rattle.std.specs.Prelude.{true, ◌≡◌, ◌≤◌, min, max};
 ghost use Rattle.std.specs.Int.Count.{ones};
-ghost use Rattle.rules.specs.Thermometer as Rule;
+ghost use Rattle.rules.specs.Thermometer as ThermometerRule;
+ghost use Rattle.arbiter.specs.Questions as Questions;
 ghost use Rattle.thermometer.specs.Adder as Adder;
 
 use arbiter::refusal::Refusal;
@@ -12,7 +13,7 @@ use arbiter::{MAX_PICKS, question};
 #[derive(Clone, Copy)]
 pub struct Picks {
     pub code: u8,
-    pub ghost coded: { Rule.is_code 8 code ≡ true },
+    pub ghost coded: { ThermometerRule.is_code Questions.max_picks code ≡ true },
     pub ghost some: { 1 ≤ ones code },
 }
 
@@ -20,7 +21,7 @@ impl Picks {
     // So many picks: the code of 3 is 111. It takes any number: 0 makes one pick, and more than 8 make eight.
     #[tactic(auto, using(rules::proofs::Thermometer::Laws::is_code_lem, rules::proofs::Thermometer::Laws::ones_code))]
     pub fn new(picks: usize) -> Picks
-        ensures { ones result.code ≡ min 8 (max 1 picks) }
+        ensures { ones result.code ≡ min Questions.max_picks (max 1 picks) }
     {
         Picks {
             code: code(picks.max(1)),
@@ -57,7 +58,7 @@ pub fn add(picks: usize, left: u8, right: u8) -> Result<Sum, Refusal>
 
 // The sum of two codes' counts.
 fn join(picks: usize, left: u8, right: u8) -> Sum
-    requires { picks ≤ 8 }
+    requires { picks ≤ Questions.max_picks }
     ensures { result ≡ Adder.joined picks left right }
 {
     let sum = count(left) + count(right);
@@ -71,7 +72,7 @@ fn join(picks: usize, left: u8, right: u8) -> Sum
 // request of 0 keeps nothing; and of the whole sum the code of the picks keeps what they allow. It calls no function, not even
 // `u32::from`.
 pub(crate) fn step(picks: Picks, code: u8, request: u8) -> StepSum
-    requires code_value { Rule.is_code (ones picks.code) code ≡ true }
+    requires code_value { ThermometerRule.is_code (ones picks.code) code ≡ true }
     requires request_bound { request ≤ 1 }
     ensures { result ≡ Adder.step (ones picks.code) code request }
 {
@@ -84,7 +85,7 @@ pub(crate) fn step(picks: Picks, code: u8, request: u8) -> StepSum
 
 // The code of a count. A byte has room for eight: of a larger count it is the code of 8. The cast loses nothing.
 pub fn code(count: usize) -> u8
-    ensures { result ≡ Rule.code (min 8 count) }
+    ensures { result ≡ ThermometerRule.code (min Questions.max_picks count) }
 {
     let above: u32 = 1 << count.min(MAX_PICKS);
     (above - 1) as u8
@@ -99,7 +100,7 @@ pub fn count(code: u8) -> usize
 
 // Whether a byte is a code for these picks: all its ones are at its low end, and they are no more than the picks.
 fn is_code(picks: usize, byte: u8) -> bool
-    ensures { result ≡ Rule.is_code picks byte }
+    ensures { result ≡ ThermometerRule.is_code picks byte }
 {
     (byte.trailing_ones() == byte.count_ones()) & (count(byte) <= picks)
 }

@@ -29,7 +29,7 @@ struct Walk {
 }
 
 impl Arbiter for Thermometer {
-    ghost questions = { Questions.state };
+    ghost questions = { Questions.state_questions };
 
     ghost state_of = { λ thermometer. thermometer.0 };
 
@@ -87,7 +87,7 @@ fn count_run(
     requires to_in_bounds { to ≤ length requests.now }
     requires to_in_bounds_2 { to ≤ length grants.old }
     requires picked { 1 ≤ picks }
-    requires picks_bound { picks ≤ 8 }
+    requires picks_bound { picks ≤ Questions.max_picks }
     requires code_value { is_code picks walk.code ≡ true }
     requires bits { Bits requests.now }
     ensures { Ran picks requests.now from to walk grants.old result grants.new }

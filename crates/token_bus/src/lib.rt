@@ -5,14 +5,14 @@
 mod question;
 
 ghost use Rattle.std.specs.Prelude.{cond, ◌≡◌, ◌+◌, ◌%◌, ◌<◌, length, replicate, Ok};
-ghost use Rattle.rules.specs.Bus as Bus;
+ghost use Rattle.rules.specs.Bus as BusRule;
 ghost use Rattle.rules.specs.RoundRobin.{start};
 ghost use Rattle.arbiter.specs.Answers as Answers;
 ghost use Rattle.arbiter.specs.Decisions.{requested};
 ghost use Rattle.arbiter.specs.Places as Places;
 ghost use Rattle.arbiter.specs.Places.{highest};
 ghost use Rattle.arbiter.specs.Questions.{◌then◌};
-ghost use Rattle.token_bus.specs.Calls as Calls;
+ghost use Rattle.token_bus.specs.Calls as BusCalls;
 
 use arbiter::engine::{Arbiter, ServedCycle};
 use arbiter::question::Verdict;
@@ -26,7 +26,7 @@ use rules::Head;
 pub struct TokenBus(pub State);
 
 impl Arbiter for TokenBus {
-    ghost questions = { Calls.state };
+    ghost questions = { BusCalls.state_questions };
 
     ghost state_of = { λ bus. bus.0 };
 
@@ -46,8 +46,8 @@ impl TokenBus {
     // the next token is 3 where acknowledge is 1, and 2 where it is 0.
     #[tactic(auto, using(crate::specs::Calls::Laws::answered_cycle))]
     pub fn cycle(self, requests: &[u8], grants: &mut [u8], acknowledge: u8) -> Answer
-        ensures value { result ≡ (Calls.cycle self.0 requests.now grants.old acknowledge).answer }
-        ensures grants_after { grants.new ≡ (Calls.cycle self.0 requests.now grants.old acknowledge).written }
+        ensures value { result ≡ (BusCalls.cycle self.0 requests.now grants.old acknowledge).answer }
+        ensures grants_after { grants.new ≡ (BusCalls.cycle self.0 requests.now grants.old acknowledge).written }
     {
         let s = self.0;
         let decided = arbitrate(s.width, s.picks, s.head, requests, grants, acknowledge);
@@ -66,8 +66,8 @@ fn arbitrate(
     grants: &mut [u8],
     acknowledge: u8,
 ) -> Result<Decision, Refusal>
-    ensures value { result ≡ (Calls.questions width picks head requests.now (length grants.old) acknowledge then Ok (Calls.decision width (start head) (Bus.acknowledged acknowledge) (requested requests.now))) }
-    ensures grants_after { grants.new ≡ Answers.if_passed (Calls.questions width picks head requests.now (length grants.old) acknowledge) (Bus.grants width (start head) (requested requests.now)) (λ _. grants.old) }
+    ensures value { result ≡ (BusCalls.questions width picks head requests.now (length grants.old) acknowledge then Ok (BusCalls.decision width (start head) (BusRule.acknowledged acknowledge) (requested requests.now))) }
+    ensures grants_after { grants.new ≡ Answers.if_passed (BusCalls.questions width picks head requests.now (length grants.old) acknowledge) (BusRule.grants width (start head) (requested requests.now)) (λ _. grants.old) }
 {
     question::state(width, picks, head)?;
     let high = arbiter::question::cycle(width, requests, grants.len())?;
@@ -89,9 +89,9 @@ fn arbitrate(
 #[tactic(auto, using(crate::specs::Calls::Laws::idle_decides, crate::specs::Calls::Laws::idle_grants, crate::specs::Calls::Laws::granted_grants))]
 fn grant(cycle: &mut ServedCycle<'_>, acknowledged: bool) -> Decision
     requires { cycle.old.picks ≡ 1 }
-    ensures value { result ≡ Calls.decision (length cycle.old.requests.now) (start cycle.old.head) acknowledged (requested cycle.old.requests.now) }
+    ensures value { result ≡ BusCalls.decision (length cycle.old.requests.now) (start cycle.old.head) acknowledged (requested cycle.old.requests.now) }
     ensures same_reference { cycle.new.grants.ghost_name ≡ cycle.old.grants.ghost_name }
-    ensures grants_after { cycle.new.grants.now ≡ Bus.grants (length cycle.old.requests.now) (start cycle.old.head) (requested cycle.old.requests.now) }
+    ensures grants_after { cycle.new.grants.now ≡ BusRule.grants (length cycle.old.requests.now) (start cycle.old.head) (requested cycle.old.requests.now) }
 {
     let width = cycle.requests.len();
     cycle.grants.fill(0);
@@ -112,7 +112,7 @@ fn grant(cycle: &mut ServedCycle<'_>, acknowledged: bool) -> Decision
 // asks at all.
 fn first_request(token: usize, requests: &[u8]) -> Option<usize>
     requires token_in_bounds { token < length requests.now }
-    ensures { result ≡ Places.first (Bus.granted (length requests.now) token (requested requests.now)) }
+    ensures { result ≡ Places.first (BusRule.granted (length requests.now) token (requested requests.now)) }
 {
     first_one(token, requests).or_else(|| first_one(0, requests))
 }

@@ -1,7 +1,7 @@
 // The questions that the token bus asks. Those that are the bus's alone stand here, the others in `arbiter`.
 ghost use Rattle.std.specs.Prelude.{◌≡◌};
 ghost use Rattle.arbiter.specs.Questions as Questions;
-ghost use Rattle.token_bus.specs.Calls as Calls;
+ghost use Rattle.token_bus.specs.Calls as BusCalls;
 
 use arbiter::question::{self, Verdict};
 use arbiter::refusal::Refusal;
@@ -23,7 +23,7 @@ pub(crate) fn acknowledge(byte: u8) -> Verdict
 
 // Questions 1, 3 and 4.
 pub(crate) fn state(width: usize, picks: usize, head: Head) -> Verdict
-    ensures { result ≡ Calls.state width picks head }
+    ensures { result ≡ BusCalls.state_questions width picks head }
 {
     question::width(width)?;
     question::one_pick(picks)?;

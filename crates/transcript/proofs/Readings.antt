@@ -3,7 +3,7 @@
 use Rattle.std.proofs.Common.{◌≡◌, ◌∙◌, sym, ℕ, ◌+◌, ◌-◌, List, length, take, drop, get_or, Option, None, Some, arith, take_all, length-drop}
 use Rattle.std.specs.Prelude.{position, ◌==◌}
 use Rattle.text.specs.Characters.{space}
-use Rattle.transcript.specs.FirstLine.{first_line, letter, number, opens}
+use Rattle.transcript.specs.FirstLine.{first_line, letter, read_number, together}
 use Rattle.transcript.specs.FirstLine.Laws.{first_single, first_opens}
 
 -- what follows the first space, as the code has it
@@ -20,7 +20,7 @@ module _ {f : Option ℕ} (line : List ℕ) (spaced : get_or line 1 0 ≡ space)
 
   -- with one
   pub reads : {end : ℕ} → f ≡ Some end
-      → first_line line ≡ opens (letter (get_or line 0 0)) (number (take end (numbers line))) (number (take (length (numbers line) - (end + 1)) (drop (end + 1) (numbers line))))
+      → first_line line ≡ together (letter (get_or line 0 0)) (read_number (take end (numbers line))) (read_number (take (length (numbers line) - (end + 1)) (drop (end + 1) (numbers line))))
   reads {end} is =
       let rest = drop (end + 1) (numbers line) in
       let all : take (length (numbers line) - (end + 1)) rest ≡ rest =

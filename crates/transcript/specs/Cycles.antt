@@ -1,6 +1,6 @@
 -- Opening and the cycle lines: 01, "The program `turns`".
 -- Assumes nothing.
-use Rattle.std.specs.Prelude.{ℕ, ◌+◌, ◌*◌, Bool, false, cond, ◌&&◌, List, [], ◌∷◌, ◌++◌, map, eqb, length, take, get_or, replicate, None, Some, Result, Ok, Err}
+use Rattle.std.specs.Prelude.{ℕ, ◌+◌, ◌*◌, Bool, cond, ◌&&◌, List, [], ◌∷◌, ◌++◌, map, eqb, length, take, get_or, replicate, None, Some, Result, Ok, Err}
 use Rattle.rules.specs.RoundRobin.{start}
 use Rattle.text.specs.Characters.{line_feed, space, digit, decimal, bits}
 use Rattle.arbiter.specs.declared.Answer.{Answer}
@@ -8,17 +8,17 @@ use Rattle.arbiter.specs.declared.State.{State}
 use Rattle.arbiter.specs.declared.refusal.Refusal.{Refusal}
 use Rattle.arbiter.specs.declared.refusal.Refusal.TheVariants.{ReadLength}
 use Rattle.arbiter.specs.Refusals as Refusals
-use Rattle.arbiter.specs.Answers.{Outcome, refused}
-use Rattle.engines.specs.Calls as Engines
-use Rattle.token_bus.specs.Calls as Bus
+use Rattle.arbiter.specs.Answers.{Effect, refused}
+use Rattle.engines.specs.Calls as EngineCalls
+use Rattle.token_bus.specs.Calls as BusCalls
 use Rattle.transcript.specs.declared.first_line.Kind.{Kind}
 use Rattle.transcript.specs.declared.first_line.Kind.TheVariants.{RoundRobin, TokenBus}
 pub mod Laws
 
--- "It opens with no head, for B with token 0"
+-- "It together with no head, for B with token 0"
 abbrev pub opening : Kind → ℕ → ℕ → Answer
-opening (RoundRobin e) n m = Engines.opening e n m None
-opening TokenBus n m = Bus.opening n m (Some 0)
+opening (RoundRobin e) n m = EngineCalls.opening e n m None
+opening TokenBus n m = BusCalls.opening n m (Some 0)
 
 -- a line that question 5 lets pass: "a cycle of N characters"; "For B a space and one acknowledge character follow"
 abbrev pub well_formed : Kind → ℕ → List ℕ → Bool
@@ -31,30 +31,31 @@ wire c = cond (eqb c (digit 0)) 0 (cond (eqb c (digit 1)) 1 2)
 
 -- a call with these requests, a grant buffer of zeros and, for the engines, a node buffer of zeros; what the grant buffer then
 -- holds. Only the bus reads the acknowledge byte
-abbrev pub called : Kind → State → List ℕ → ℕ → Outcome
+abbrev pub called : Kind → State → List ℕ → ℕ → Effect
 called (RoundRobin e) s requests byte =
-    let o = Engines.cycle e s requests (replicate s.width 0) (replicate (2 * s.width) 0) in
+    let o = EngineCalls.cycle e s requests (replicate s.width 0) (replicate (2 * s.width) 0) in
     record { answer = o.answer; written = o.grants }
-called TokenBus s requests byte = Bus.cycle s requests (replicate s.width 0) byte
+called TokenBus s requests byte = BusCalls.cycle s requests (replicate s.width 0) byte
 
 -- a cycle line: the characters of the stations are the requests, and for B the last one is the acknowledge byte
-unfoldable pub cycle : Kind → State → List ℕ → Outcome
-cycle e s line =
-    cond (well_formed e s.width line)
-    (called e s (map wire (take s.width line)) (wire (get_or line (s.width + 1) 0)))
+unfoldable pub cycle : Kind → State → List ℕ → Effect
+cycle kind s line =
+    cond (well_formed kind s.width line)
+    (called kind s (map wire (take s.width line)) (wire (get_or line (s.width + 1) 0)))
     (record { answer = refused ReadLength s; written = replicate s.width 0 })
 
--- " refused "
+-- the word, with a space on each side: " refused "
 abbrev pub refused_word : List ℕ
 refused_word = 32 ∷ 114 ∷ 101 ∷ 102 ∷ 117 ∷ 115 ∷ 101 ∷ 100 ∷ 32 ∷ []
 
 -- what a refusal prints: "its number, the word `refused`, the refusal number and the place"
-unfoldable pub refusal : ℕ → ℕ → ℕ → List ℕ
-refusal k number place =
+unfoldable pub refusal_line : ℕ → ℕ → ℕ → List ℕ
+refusal_line k number place =
     decimal k ++ (refused_word ++ (decimal number ++ ((space ∷ []) ++ (decimal place ++ (line_feed ∷ [])))))
 
+-- the same by the refusal itself
 abbrev pub refused_line : ℕ → Refusal → List ℕ
-refused_line k r = refusal k (Refusals.number r) (Refusals.place r)
+refused_line k r = refusal_line k (Refusals.number r) (Refusals.place r)
 
 -- what a served cycle prints: "its number from 1, the grants as N characters 0 or 1, and the next head, parted by single spaces"
 unfoldable pub granted : ℕ → List ℕ → ℕ → List ℕ
@@ -66,10 +67,10 @@ told k (Ok count) grants next = granted k grants next
 told k (Err refusal) grants next = refused_line k refusal
 
 -- a served cycle ends with a head, and `start` is its station
-unfoldable pub printed : ℕ → Outcome → List ℕ
+unfoldable pub printed : ℕ → Effect → List ℕ
 printed k o = told k o.answer.outcome o.written (start o.answer.state.head)
 
 -- what the cycle lines from the k-th on print: "the run goes on with the old state" after a refused one, which its answer has
 unfoldable pub run : Kind → State → ℕ → List (List ℕ) → List ℕ
-run e s k [] = []
-run e s k (line ∷ lines) = printed k (cycle e s line) ++ run e (cycle e s line).answer.state (k + 1) lines
+run kind s k [] = []
+run kind s k (line ∷ lines) = printed k (cycle kind s line) ++ run kind (cycle kind s line).answer.state (k + 1) lines

@@ -15,9 +15,11 @@ letter c =
     cond (eqb c 83) (Some (RoundRobin Scan))
     (cond (eqb c 84) (Some (RoundRobin Tree)) (cond (eqb c 80) (Some (RoundRobin Thermometer)) (cond (eqb c 66) (Some TokenBus) None)))
 
+-- a character that is one of the ten digits
 abbrev pub is_digit : ℕ → Bool
 is_digit c = leb (digit 0) c && leb c (digit 9)
 
+-- every character is one
 abbrev pub all_digits : List ℕ → Bool
 all_digits [] = true
 all_digits (c ∷ cs) = is_digit c && all_digits cs
@@ -36,15 +38,16 @@ unfoldable pub well_formed : List ℕ → Bool
 well_formed cs =
     leb 1 (length cs) && (leb (length cs) max_digits && ((leb (length cs) 1 || ltb (digit 0) (get_or cs 0 0)) && all_digits cs))
 
-unfoldable pub number : List ℕ → Option ℕ
-number cs = cond (well_formed cs) (Some (value 0 cs)) None
+-- the number that such digits are, or none
+unfoldable pub read_number : List ℕ → Option ℕ
+read_number cs = cond (well_formed cs) (Some (value 0 cs)) None
 
 -- the three together: readable if each of them is
-abbrev pub opens : Option Kind → Option ℕ → Option ℕ → Option FirstLine
-opens None n m = None
-opens (Some e) None m = None
-opens (Some e) (Some n) None = None
-opens (Some e) (Some n) (Some m) = Some (record { kind = e; width = n; picks = m })
+abbrev pub together : Option Kind → Option ℕ → Option ℕ → Option FirstLine
+together None n m = None
+together (Some kind) None m = None
+together (Some kind) (Some n) None = None
+together (Some kind) (Some n) (Some m) = Some (record { kind = kind; width = n; picks = m })
 
 -- "Line 1 is a letter .., a space, N, a space, m": N goes up to the second space, and m is all that follows
 unfoldable pub first_line : List ℕ → Option FirstLine
@@ -52,5 +55,5 @@ first_line line =
     let numbers = drop 2 line in
     let k = place space numbers in
     cond (eqb (get_or line 1 0) space && ltb k (length numbers))
-    (opens (letter (get_or line 0 0)) (number (take k numbers)) (number (drop (suc k) numbers)))
+    (together (letter (get_or line 0 0)) (read_number (take k numbers)) (read_number (drop (suc k) numbers)))
     None

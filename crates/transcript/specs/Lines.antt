@@ -1,6 +1,6 @@
 -- The lines of an input.
 -- Assumes nothing.
-use Rattle.std.specs.Prelude.{ℕ, zero, suc, ◌-◌, cond, List, [], ◌∷◌, eqb, leb, length, take, drop, get_or}
+use Rattle.std.specs.Prelude.{ℕ, zero, suc, ◌-◌, cond, List, [], ◌∷◌, eqb, length, take, get_or}
 use Rattle.std.specs.Slice.Iter.{split_rest, split_done}
 use Rattle.std.specs.declared.slice.Split.{Split}
 use Rattle.text.specs.Characters.{line_feed}
@@ -31,4 +31,4 @@ lines input = split line_feed (unended input)
 
 -- the lines that an iterator over them has left
 abbrev pub left : {P : Type 0} → Split ℕ P → List (List ℕ)
-left lines = cond (split_done lines) [] (split line_feed (split_rest lines))
+left iter = cond (split_done iter) [] (split line_feed (split_rest iter))

@@ -1,13 +1,14 @@
 -- Everything that the program `turns` prints, for any input: 01, "The program `turns`".
 -- Assumes nothing.
-use Rattle.std.specs.Prelude.{ℕ, ◌+◌, ◌≤◌, ◌≡◌, cond, List, [], ◌∷◌, ◌++◌, eqb, leb, length, take, drop, get_or, Option, None, Some, Result, Ok, Err}
+use Rattle.std.specs.Prelude.{ℕ, ◌+◌, ◌≤◌, ◌≡◌, cond, List, [], ◌∷◌, ◌++◌, leb, length, take, drop, get_or, Option, None, Some, Result, Ok, Err}
 use Rattle.arbiter.specs.declared.State.{State}
 use Rattle.arbiter.specs.declared.refusal.Refusal.{Refusal}
+use Rattle.arbiter.specs.declared.refusal.Refusal.TheVariants as Refused
 use Rattle.transcript.specs.declared.first_line.FirstLine.{FirstLine}
 use Rattle.transcript.specs.declared.first_line.Kind.{Kind}
 use Rattle.transcript.specs.Lines.{lines}
 use Rattle.transcript.specs.FirstLine.{first_line}
-use Rattle.transcript.specs.Cycles.{opening, refusal, refused_line, run}
+use Rattle.transcript.specs.Cycles.{opening, refused_line, run}
 pub mod Laws
 pub mod Known
 
@@ -25,24 +26,24 @@ abbrev pub read_size : ℕ
 read_size = max_input + 1
 
 -- what follows the heading once an engine is opened, given what the opening came to and the state that it made
-abbrev pub opened_with : Kind → Result ℕ Refusal → State → List (List ℕ) → List ℕ
-opened_with e (Ok count) s ls = run e s 1 ls
-opened_with e (Err refusal) s ls = refused_line 0 refusal
+abbrev pub after_opening : Kind → Result ℕ Refusal → State → List (List ℕ) → List ℕ
+after_opening kind (Ok count) s ls = run kind s 1 ls
+after_opening kind (Err refusal) s ls = refused_line 0 refusal
 
 -- what follows the heading once the first line is read: "A refused opening, and 11 or 12, print line number 0 in that form and
 -- end the run"
-unfoldable pub opened : Option FirstLine → List (List ℕ) → List ℕ
-opened None ls = refusal 0 11 0
-opened (Some f) ls =
-    let a = opening f.kind f.width f.picks in opened_with f.kind a.outcome a.state ls
+unfoldable pub after_first_line : Option FirstLine → List (List ℕ) → List ℕ
+after_first_line None ls = refused_line 0 Refused.FirstLine
+after_first_line (Some f) ls =
+    let a = opening f.kind f.width f.picks in after_opening f.kind a.outcome a.state ls
 
 -- what follows the heading, given the lines of the input
-abbrev pub answered : List (List ℕ) → List ℕ
-answered ls = opened (first_line (get_or ls 0 [])) (drop 1 ls)
+abbrev pub after_heading : List (List ℕ) → List ℕ
+after_heading ls = after_first_line (first_line (get_or ls 0 [])) (drop 1 ls)
 
 -- everything: "always with the fixed first line"; 12 is asked before 11
 unfoldable pub text : List ℕ → List ℕ
-text input = heading ++ cond (leb (length input) max_input) (answered (lines input)) (refusal 0 12 0)
+text input = heading ++ cond (leb (length input) max_input) (after_heading (lines input)) (refused_line 0 Refused.InputLength)
 
 -- n counts bytes at the start of a buffer. The second part follows from the first; with both a caller can lend these bytes
 abbrev pub Counts : ℕ → List ℕ → Type 0

@@ -1,6 +1,6 @@
 // The first line of an input: the engine's letter, the number of stations and the pick count.
 ghost use Rattle.std.specs.Prelude.{◌≡◌, cond, ◌≤◌, length};
-ghost use Rattle.transcript.specs.FirstLine as Spec;
+ghost use Rattle.transcript.specs.FirstLine as FirstLines;
 
 use crate::lines::find;
 use engines::Engine;
@@ -26,7 +26,7 @@ pub struct FirstLine {
 // Reads a first line, if it is readable: the letter, a space, the stations up to the next space, and the picks.
 #[tactic(auto, using(crate::proofs::Readings::single, crate::proofs::Readings::reads), unfolding(crate::specs::FirstLine::first_line))]
 pub(crate) fn read(line: &[u8]) -> Option<FirstLine>
-    ensures { result ≡ Spec.first_line line.now }
+    ensures { result ≡ FirstLines.first_line line.now }
 {
     let [letter, b' ', numbers @ ..] = line else {
         return None;
@@ -41,7 +41,7 @@ pub(crate) fn read(line: &[u8]) -> Option<FirstLine>
 // The kind of arbiter that a letter names. Only a first line has such a letter, and a wrong one has no error of its own, so this is
 // no `TryFrom`.
 fn named(character: u8) -> Option<Kind>
-    ensures { result ≡ Spec.letter character }
+    ensures { result ≡ FirstLines.letter character }
 {
     match character {
         b'S' => Some(Kind::RoundRobin(Engine::Scan)),
@@ -54,9 +54,9 @@ fn named(character: u8) -> Option<Kind>
 
 // A number of one to `MAX_DIGITS` digits, with no leading zero except 0 itself. The library's `parse` takes a sign and leading zeros,
 // and only of a `str`.
-#[tactic(auto, unfolding(crate::specs::FirstLine::number, crate::specs::FirstLine::well_formed))]
+#[tactic(auto, unfolding(crate::specs::FirstLine::read_number, crate::specs::FirstLine::well_formed))]
 fn read_number(digits: &[u8]) -> Option<usize>
-    ensures { result ≡ Spec.number digits.now }
+    ensures { result ≡ FirstLines.read_number digits.now }
 {
     let (first, others) = digits.split_first()?;
     if digits.len() > MAX_DIGITS {
@@ -70,8 +70,8 @@ fn read_number(digits: &[u8]) -> Option<usize>
 
 // The value of at most `MAX_DIGITS` characters, if all are digits.
 fn value(digits: &[u8]) -> Option<usize>
-    requires { length digits.now ≤ Spec.max_digits }
-    ensures { result ≡ cond (Spec.all_digits digits.now) (Some (Spec.value 0 digits.now)) None }
+    requires { length digits.now ≤ FirstLines.max_digits }
+    ensures { result ≡ cond (FirstLines.all_digits digits.now) (Some (FirstLines.value 0 digits.now)) None }
 {
     let mut value: usize = 0;
     for character in digits {

@@ -61,7 +61,7 @@ fn print(input: &[u8], out: &mut Output)
 #[tactic(auto, using(crate::specs::Cycles::Laws::opening_wide, std::proofs::lemmas::Fn::always_returns_same))]
 fn answer(body: &[u8], out: &mut Output)
     requires { length body.now ≤ Text.max_input }
-    ensures { Written out.old (Text.answered (Lines.split line_feed body.now)) out.new }
+    ensures { Written out.old (Text.after_heading (Lines.split line_feed body.now)) out.new }
 {
     let mut lines = body.split(|byte| *byte == b'\n');
     let Some(first) = first_line::read(lines.next().unwrap_or(&[])) else {

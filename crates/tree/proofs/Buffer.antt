@@ -17,7 +17,7 @@ use borrow.Rule.Slice.PartMut.{put_mid}
 use Rattle.rules.specs.Head.{Head}
 use Rattle.std.specs.Prelude.{None, Some}
 use Rattle.rules.specs.Lists.{bit, range}
-use Rattle.rules.specs.Lists.Laws as Lists
+use Rattle.rules.specs.Lists.Laws as ListsLaws
 use Rattle.rules.specs.Tree.{value, head_at, leaf, join, joined}
 use Rattle.rules.proofs.Tree.Laws.{value_below}
 use Rattle.arbiter.specs.Decisions.{requested}
@@ -27,8 +27,8 @@ use Rattle.tree.specs.Steps.{ValuesFrom, Level, DoneFrom}
 -- bytes that hold what f says, each at its place
 leaves : (f : ℕ → ℕ) (xs : List ℕ) → ((j : ℕ) → j < length xs → get_or xs j 0 ≡ f j) → xs ≡ map f (range 0 (length xs))
 leaves f xs at =
-    ext_get_or 0 xs (map f (range 0 (length xs))) (sym (Lists.length_table f 0 (length xs)))
-    (λ j l. at j l ∙ sym (Lists.get_d_table f 0 (length xs) j l ∙ rw zero-add))
+    ext_get_or 0 xs (map f (range 0 (length xs))) (sym (ListsLaws.length_table f 0 (length xs)))
+    (λ j l. at j l ∙ sym (ListsLaws.get_d_table f 0 (length xs) j l ∙ rw zero-add))
 
 -- the stations' nodes hold the requests, and then the head is marked
 module _ (xs : List ℕ) (bits : Bits xs) where
@@ -36,7 +36,7 @@ module _ (xs : List ℕ) (bits : Bits xs) where
   leaf_value : (h : Head) (i : ℕ) → i < length xs → leaf h (requested xs) i ≡ 2 * bit (head_at h i) + get_or xs i 0
   unfolding leaf value
   leaf_value h i l =
-      Lists.split (eqb (get_or xs i 0) 1)
+      ListsLaws.split (eqb (get_or xs i 0) 1)
       (λ q. rw q (omega (arith, eqb-true (get_or xs i 0) 1 q)))
       (λ q. rw q (omega (arith, eqb-false (get_or xs i 0) 1 q, bits i l)))
 
@@ -54,7 +54,7 @@ module _ (xs : List ℕ) (bits : Bits xs) where
       (leaves (leaf (Some h) (requested xs)) (set xs h v)
       (λ j l.
       let here : j < length xs = omega (arith, length-set xs h v) in
-      Lists.split (eqb h j)
+      ListsLaws.split (eqb h j)
       (λ q.
       let same : j ≡ h = omega (arith, eqb-true h j q) in
       ap (λ (i : ℕ). get_or (set xs h v) i 0) same
@@ -82,7 +82,7 @@ leaves_low n h asks t e u l k =
     let here : get_or t u 0 ≡ leaf h asks (u - n) =
     rw at at (sym (get_or-drop n t (u - n) 0))
     ∙ ap (λ (xs : List ℕ). get_or xs (u - n) 0) e
-    ∙ Lists.get_d_table (leaf h asks) 0 n (u - n) (omega arith)
+    ∙ ListsLaws.get_d_table (leaf h asks) 0 n (u - n) (omega arith)
     ∙ rw zero-add in
     omega (arith, here, value_below (head_at h (u - n)) (asks (u - n)))
 
@@ -146,7 +146,7 @@ module _ (from to n : ℕ) (tree t s : List ℕ) (low : 1 ≤ from) (up : from �
 
   values : ValuesFrom from n s
   values u h k =
-      Lists.split (ltb u to)
+      ListsLaws.split (ltb u to)
       (λ q. omega (arith, l.joins u h (ltb-true u to q), join_below (get_or t (2 * u) 0) (get_or t (2 * u + 1) 0)))
       (λ q. let past = ltb-false u to q in omega (arith, behind u past, d.values u past k))
 

@@ -3,7 +3,7 @@
 -- Assumes nothing.
 use Rattle.std.specs.Prelude.{ℕ, List, length}
 use Rattle.rules.specs.Head.{Head}
-use Rattle.rules.specs.Tree as Rule
+use Rattle.rules.specs.Tree as TreeRule
 use Rattle.arbiter.specs.declared.Answer.{Answer}
 use Rattle.arbiter.specs.declared.State.{State}
 use Rattle.arbiter.specs.Questions as Questions
@@ -13,36 +13,36 @@ use Rattle.arbiter.specs.Cycle.{asking, answer, granting}
 pub mod Laws
 
 -- 1, 2, 3 and 4
-abbrev pub state : ℕ → ℕ → Head → Verdict
-state n m h = Questions.width n then Questions.tree_width n then Questions.one_pick m then Questions.head n h
+abbrev pub state_questions : ℕ → ℕ → Head → Verdict
+state_questions n m h = Questions.width n then Questions.tree_width n then Questions.one_pick m then Questions.head n h
 
 -- "Opening takes N and m (and a head, if one is given)"
 abbrev pub opening : ℕ → ℕ → Head → Answer
-opening n m h = opened (state n m h) n m h
+opening n m h = opened (state_questions n m h) n m h
 
 -- the questions of a cycle with these requests, and a grant and a node buffer of these lengths: 1 to 8
 abbrev pub questions : ℕ → ℕ → Head → List ℕ → ℕ → ℕ → Verdict
 questions n m h requests grantsSize nodesSize =
-    state n m h
+    state_questions n m h
     then Questions.read_length n (length requests)
     then Questions.write_length n grantsSize
     then Questions.nodes_length n nodesSize
     then Questions.bits 0 requests
 
 -- what a cycle leaves: its answer, and the bytes that the two buffers then hold
-pub record Outcome : Type 0 where
+pub record TreeEffect : Type 0 where
   pub answer : Answer
   pub grants : List ℕ
   pub nodes : List ℕ
 
 -- a cycle, with the buffers' former bytes: "After a served cycle the node buffer holds the tree of that cycle's requests and its
 -- head before the cycle"; a refusal "writes nothing"
-unfoldable pub cycle : State → List ℕ → List ℕ → List ℕ → Outcome
-cycle s requests grants nodes =
-    if_passed (questions s.width s.picks s.head requests (length grants) (length nodes))
+unfoldable pub cycle : State → List ℕ → List ℕ → List ℕ → TreeEffect
+cycle s requests former formerNodes =
+    if_passed (questions s.width s.picks s.head requests (length former) (length formerNodes))
     (record {
       answer = answer s requests;
       grants = granting s requests;
-      nodes = Rule.nodes s.width s.head (asking s requests);
+      nodes = TreeRule.nodes s.width s.head (asking s requests);
     })
-    (λ refusal. record { answer = refused refusal s; grants = grants; nodes = nodes })
+    (λ refusal. record { answer = refused refusal s; grants = former; nodes = formerNodes })

@@ -1,7 +1,7 @@
 -- What the steps of the tree's cycle promise. The promise of its calls is Calls.
 -- Assumes nothing.
 use Rattle.std.specs.Prelude.{ℕ, ◌+◌, ◌-◌, ◌*◌, ◌≤◌, ◌<◌, ◌≡◌, List, length, get_or, drop}
-use Rattle.rules.specs.Tree as Rule
+use Rattle.rules.specs.Tree as TreeRule
 pub mod Laws
 
 -- every byte of a node buffer for n stations is a node's value
@@ -23,7 +23,7 @@ pub record Pairs (from to : ℕ) (t pairs : List ℕ) : Type 0 where
 
 -- the nodes from `from` up to `to` now join the children that they had before, and the nodes behind them stay
 pub record Level (from to : ℕ) (before after : List ℕ) : Type 0 where
-  pub joins : (u : ℕ) → from ≤ u → u < to → get_or after u 0 ≡ Rule.join (get_or before (2 * u) 0) (get_or before (2 * u + 1) 0)
+  pub joins : (u : ℕ) → from ≤ u → u < to → get_or after u 0 ≡ TreeRule.join (get_or before (2 * u) 0) (get_or before (2 * u + 1) 0)
   pub rest : drop to after ≡ drop to before
 
 -- the node buffer t is done from node `low` on: joining the others gives the tree
@@ -31,4 +31,4 @@ pub record DoneFrom (low n : ℕ) (tree t : List ℕ) : Type 0 where
   pub some : 1 ≤ low
   pub most : low ≤ n
   pub values : ValuesFrom low n t
-  pub same : Rule.joined (low - 1) (drop low t) ≡ tree
+  pub same : TreeRule.joined (low - 1) (drop low t) ≡ tree

@@ -1,6 +1,6 @@
 // The descent from the root to a station.
 ghost use Rattle.std.specs.Prelude.{◌≡◌, ◌+◌, ◌*◌, ◌≤◌, ◌<◌, length, get_or};
-ghost use Rattle.rules.specs.Tree as Rule;
+ghost use Rattle.rules.specs.Tree as TreeRule;
 ghost use Rattle.tree.specs.Steps.{Values};
 
 use crate::nodes::Nodes;
@@ -10,7 +10,7 @@ impl Nodes<'_> {
     #[tactic(auto, using(rules::proofs::Tree::Laws::way_goes_on, rules::proofs::Tree::Laws::way_ends, rules::proofs::Tree::Laws::child_low))]
     pub(crate) fn reached(&self) -> usize
         requires { Values self.now.width self.now.bytes.now }
-        ensures { result ≡ Rule.reached self.now.width self.now.bytes.now }
+        ensures { result ≡ TreeRule.reached self.now.width self.now.bytes.now }
     {
         let mut u: usize = 1;
         while u < self.width {
@@ -26,7 +26,7 @@ fn child(nodes: &[u8], u: usize) -> usize
     requires u_in_bounds { 2 * u + 1 < length nodes.now }
     requires u_bound { get_or nodes.now (2 * u) 0 < 4 }
     requires u_bound_2 { get_or nodes.now (2 * u + 1) 0 < 4 }
-    ensures { result ≡ Rule.child nodes.now u }
+    ensures { result ≡ TreeRule.child nodes.now u }
 {
     let left = 2 * u;
     let right = 2 * u + 1;
@@ -43,7 +43,7 @@ fn child(nodes: &[u8], u: usize) -> usize
 fn goes_right(left: u8, right: u8) -> bool
     requires left_bound { left < 4 }
     requires right_bound { right < 4 }
-    ensures { result ≡ Rule.goes_right left right }
+    ensures { result ≡ TreeRule.goes_right left right }
 {
     matches!(left * 4 + right, 0..=3 | 7 | 9 | 11 | 15)
 }

@@ -7,14 +7,14 @@ mod nodes;
 pub mod question;
 
 ghost use Rattle.std.specs.Prelude.{◌≡◌, ◌*◌, ◌≤◌, length, replicate, Ok};
-ghost use Rattle.rules.specs.RoundRobin as RoundRobin;
-ghost use Rattle.rules.specs.Tree as Rule;
+ghost use Rattle.rules.specs.RoundRobin as RoundRobinRule;
+ghost use Rattle.rules.specs.Tree as TreeRule;
 ghost use Rattle.arbiter.specs.Answers as Answers;
 ghost use Rattle.arbiter.specs.Places as Places;
 ghost use Rattle.arbiter.specs.Decisions.{requested, decision};
 ghost use Rattle.arbiter.specs.Questions.{◌then◌};
-ghost use Rattle.tree.specs.Calls as Calls;
-ghost use Rattle.tree.specs.Steps as Steps;
+ghost use Rattle.tree.specs.Calls as TreeCalls;
+ghost use Rattle.tree.specs.Steps as TreeSteps;
 
 use arbiter::engine::{Arbiter, ServedCycle};
 use arbiter::question::Verdict;
@@ -28,7 +28,7 @@ use rules::Head;
 pub struct Tree(pub State);
 
 impl Arbiter for Tree {
-    ghost questions = { Calls.state };
+    ghost questions = { TreeCalls.state_questions };
 
     ghost state_of = { λ tree. tree.0 };
 
@@ -48,9 +48,9 @@ impl Tree {
     // and 1 asking it grants 0, the next head is 1, more are pending, and the nodes are 0 2 1 2 1 1 2 0.
     #[tactic(auto, using(crate::specs::Calls::Laws::answered_cycle))]
     pub fn cycle(self, requests: &[u8], grants: &mut [u8], nodes: &mut [u8]) -> Answer
-        ensures value { result ≡ (Calls.cycle self.0 requests.now grants.old nodes.old).answer }
-        ensures grants_after { grants.new ≡ (Calls.cycle self.0 requests.now grants.old nodes.old).grants }
-        ensures nodes_after { nodes.new ≡ (Calls.cycle self.0 requests.now grants.old nodes.old).nodes }
+        ensures value { result ≡ (TreeCalls.cycle self.0 requests.now grants.old nodes.old).answer }
+        ensures grants_after { grants.new ≡ (TreeCalls.cycle self.0 requests.now grants.old nodes.old).grants }
+        ensures nodes_after { nodes.new ≡ (TreeCalls.cycle self.0 requests.now grants.old nodes.old).nodes }
     {
         let s = self.0;
         let decided = arbitrate(s.width, s.picks, s.head, requests, grants, nodes);
@@ -68,9 +68,9 @@ fn arbitrate(
     grants: &mut [u8],
     nodes: &mut [u8],
 ) -> Result<Decision, Refusal>
-    ensures value { result ≡ (Calls.questions width picks head requests.now (length grants.old) (length nodes.old) then Ok (decision width picks head (requested requests.now))) }
-    ensures grants_after { grants.new ≡ Answers.if_passed (Calls.questions width picks head requests.now (length grants.old) (length nodes.old)) (RoundRobin.grants width picks head (requested requests.now)) (λ _. grants.old) }
-    ensures nodes_after { nodes.new ≡ Answers.if_passed (Calls.questions width picks head requests.now (length grants.old) (length nodes.old)) (Rule.nodes width head (requested requests.now)) (λ _. nodes.old) }
+    ensures value { result ≡ (TreeCalls.questions width picks head requests.now (length grants.old) (length nodes.old) then Ok (decision width picks head (requested requests.now))) }
+    ensures grants_after { grants.new ≡ Answers.if_passed (TreeCalls.questions width picks head requests.now (length grants.old) (length nodes.old)) (RoundRobinRule.grants width picks head (requested requests.now)) (λ _. grants.old) }
+    ensures nodes_after { nodes.new ≡ Answers.if_passed (TreeCalls.questions width picks head requests.now (length grants.old) (length nodes.old)) (TreeRule.nodes width head (requested requests.now)) (λ _. nodes.old) }
 {
     question::cycle(width, picks, head, requests, grants.len(), nodes.len())?;
     let mut cycle = ServedCycle {
@@ -94,12 +94,12 @@ fn arbitrate(
 #[tactic(auto, using(rules::proofs::Tree::Laws::reached_station, crate::specs::Steps::Laws::chosen_one, crate::specs::Steps::Laws::chosen_none, crate::specs::Steps::Laws::grants_one, crate::specs::Steps::Laws::grants_none))]
 fn grant(tree: &Nodes, cycle: &mut ServedCycle<'_>) -> Option<usize>
     requires width_value { tree.now.width ≡ length cycle.old.requests.now }
-    requires values { Steps.Values tree.now.width tree.now.bytes.now }
-    ensures value { result ≡ Places.first (Rule.chosen tree.now.width tree.now.bytes.now) }
+    requires values { TreeSteps.Values tree.now.width tree.now.bytes.now }
+    ensures value { result ≡ Places.first (TreeRule.chosen tree.now.width tree.now.bytes.now) }
     ensures same_picks { cycle.new.picks ≡ cycle.old.picks }
     ensures same_requests { cycle.new.requests.now ≡ cycle.old.requests.now }
     ensures same_reference { cycle.new.grants.ghost_name ≡ cycle.old.grants.ghost_name }
-    ensures grants_after { cycle.new.grants.now ≡ Rule.grants tree.now.width tree.now.bytes.now }
+    ensures grants_after { cycle.new.grants.now ≡ TreeRule.grants tree.now.width tree.now.bytes.now }
 {
     cycle.grants.fill(0);
     let station = tree.reached();

@@ -3,10 +3,10 @@
 ghost use Rattle.std.specs.Prelude.{◌≡◌, map, ◌+◌, ◌-◌, ◌*◌, ◌≤◌, ◌<◌, length, drop};
 ghost use Rattle.rules.specs.Lists.{range};
 ghost use Rattle.rules.specs.RoundRobin.{start};
-ghost use Rattle.rules.specs.Tree as Rule;
+ghost use Rattle.rules.specs.Tree as TreeRule;
 ghost use Rattle.arbiter.specs.Decisions.{requested};
 ghost use Rattle.arbiter.specs.Places.{Bits};
-ghost use Rattle.tree.specs.Steps as Steps;
+ghost use Rattle.tree.specs.Steps as TreeSteps;
 
 use arbiter::engine::ServedCycle;
 
@@ -33,7 +33,7 @@ impl Nodes<'_> {
         requires { length cycle.now.requests.now ≡ self.old.width }
         ensures same_width { self.new.width ≡ self.old.width }
         ensures same_reference { self.new.bytes.ghost_name ≡ self.old.bytes.ghost_name }
-        ensures bytes_after { self.new.bytes.now ≡ Rule.nodes self.old.width cycle.now.head (requested cycle.now.requests.now) }
+        ensures bytes_after { self.new.bytes.now ≡ TreeRule.nodes self.old.width cycle.now.head (requested cycle.now.requests.now) }
     {
         write_stations(cycle, &mut self.bytes[self.width..]);
         self.join_all();
@@ -42,10 +42,10 @@ impl Nodes<'_> {
     // Joins the nodes from the last that is no station's up to the root, and sets byte 0.
     #[tactic(auto, using(crate::proofs::Buffer::joined_all))]
     fn join_all(&mut self)
-        requires values_from { Steps.ValuesFrom self.old.width self.old.width self.old.bytes.now }
+        requires values_from { TreeSteps.ValuesFrom self.old.width self.old.width self.old.bytes.now }
         ensures same_width { self.new.width ≡ self.old.width }
         ensures same_reference { self.new.bytes.ghost_name ≡ self.old.bytes.ghost_name }
-        ensures bytes_after { self.new.bytes.now ≡ Rule.joined (self.old.width - 1) (drop self.old.width self.old.bytes.now) }
+        ensures bytes_after { self.new.bytes.now ≡ TreeRule.joined (self.old.width - 1) (drop self.old.width self.old.bytes.now) }
     {
         let low = self.join_levels();
         for u in (1..low).rev() {
@@ -58,10 +58,10 @@ impl Nodes<'_> {
     // The children are read before any of the nodes is written, so that the compiler can join many at once. A small tree makes no array.
     // How many are joined at once goes by how many are left, so no range gives it.
     fn join_levels(&mut self) -> usize
-        requires values_from { Steps.ValuesFrom self.old.width self.old.width self.old.bytes.now }
+        requires values_from { TreeSteps.ValuesFrom self.old.width self.old.width self.old.bytes.now }
         ensures same_width { self.new.width ≡ self.old.width }
         ensures same_reference { self.new.bytes.ghost_name ≡ self.old.bytes.ghost_name }
-        ensures done { Steps.DoneFrom result self.old.width (Rule.joined (self.old.width - 1) (drop self.old.width self.old.bytes.now)) self.new.bytes.now }
+        ensures done { TreeSteps.DoneFrom result self.old.width (TreeRule.joined (self.old.width - 1) (drop self.old.width self.old.bytes.now)) self.new.bytes.now }
     {
         if self.width <= FEW_NODES {
             return self.width;
@@ -83,7 +83,7 @@ impl Nodes<'_> {
 #[tactic(auto, using(rules::proofs::RoundRobin::Laws::start_at, crate::proofs::Buffer::marked_none, crate::proofs::Buffer::marked_at))]
 fn write_stations(cycle: &ServedCycle<'_>, stations: &mut [u8])
     requires { length stations.old ≡ length cycle.now.requests.now }
-    ensures { stations.new ≡ map (Rule.leaf cycle.now.head (requested cycle.now.requests.now)) (range 0 (length cycle.now.requests.now)) }
+    ensures { stations.new ≡ map (TreeRule.leaf cycle.now.head (requested cycle.now.requests.now)) (range 0 (length cycle.now.requests.now)) }
 {
     stations.copy_from_slice(cycle.requests);
     if let Some(h) = cycle.head {
@@ -94,10 +94,10 @@ fn write_stations(cycle: &ServedCycle<'_>, stations: &mut [u8])
 // Reads the children of the nodes from `from` up to `to`, a pair for each: left + 256 × right. By index, as the next, since what is
 // written through `zip` or `enumerate` a proof knows by its length alone.
 fn read_pairs(from: usize, to: usize, nodes: &[u8], pairs: &mut [u16; MAX_PAIRS])
-    requires to_bound { to ≤ from + Steps.max_pairs }
+    requires to_bound { to ≤ from + TreeSteps.max_pairs }
     requires to_in_bounds { 2 * to ≤ length nodes.now }
-    requires pairs_len { length pairs.old ≡ Steps.max_pairs }
-    ensures { Steps.Pairs from to nodes.now pairs.new }
+    requires pairs_len { length pairs.old ≡ TreeSteps.max_pairs }
+    ensures { TreeSteps.Pairs from to nodes.now pairs.new }
 {
     for u in from..to {
         pairs[u - from] = u16::from_le_bytes([nodes[2 * u], nodes[2 * u + 1]]);
@@ -107,12 +107,12 @@ fn read_pairs(from: usize, to: usize, nodes: &[u8], pairs: &mut [u16; MAX_PAIRS]
 // Joins these pairs into the nodes from `from` up to `to`.
 fn join_pairs(from: usize, to: usize, pairs: &[u16; MAX_PAIRS], nodes: &mut [u8])
     requires from_le_to { from ≤ to }
-    requires to_bound { to ≤ from + Steps.max_pairs }
+    requires to_bound { to ≤ from + TreeSteps.max_pairs }
     requires to_bound_2 { to ≤ 2 * from }
     requires to_in_bounds { 2 * to ≤ length nodes.old }
-    requires values_from { Steps.ValuesFrom to to nodes.old }
-    requires pairs { Steps.Pairs from to nodes.old pairs.now }
-    ensures { Steps.Level from to nodes.old nodes.new }
+    requires values_from { TreeSteps.ValuesFrom to to nodes.old }
+    requires pairs { TreeSteps.Pairs from to nodes.old pairs.now }
+    ensures { TreeSteps.Level from to nodes.old nodes.new }
 {
     for u in from..to {
         let [left, right] = pairs[u - from].to_le_bytes();
@@ -125,7 +125,7 @@ fn join_pairs(from: usize, to: usize, pairs: &[u16; MAX_PAIRS], nodes: &mut [u8]
 fn join(left: u8, right: u8) -> u8
     requires left_bound { left < 4 }
     requires right_bound { right < 4 }
-    ensures { result ≡ Rule.join left right }
+    ensures { result ≡ TreeRule.join left right }
 {
     right | (left & !(right >> 1))
 }
@@ -133,7 +133,7 @@ fn join(left: u8, right: u8) -> u8
 // The S0 of a value.
 #[tactic(auto, unfolding(rules::specs::Tree::s0))]
 pub(crate) fn s0(value: u8) -> bool
-    ensures { result ≡ Rule.s0 value }
+    ensures { result ≡ TreeRule.s0 value }
 {
     value % 2 == 1
 }

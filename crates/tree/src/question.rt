@@ -1,7 +1,7 @@
 // The questions that the tree asks. Those that are the tree's alone stand here, the others in `arbiter`.
 ghost use Rattle.std.specs.Prelude.{◌≡◌};
 ghost use Rattle.arbiter.specs.Questions as Questions;
-ghost use Rattle.tree.specs.Calls as Calls;
+ghost use Rattle.tree.specs.Calls as TreeCalls;
 
 use arbiter::question::{self, Verdict};
 use arbiter::refusal::Refusal;
@@ -27,7 +27,7 @@ pub fn nodes_length(width: usize, length: usize) -> Verdict
 
 // Questions 1, 2, 3 and 4.
 pub(crate) fn state(width: usize, picks: usize, head: Head) -> Verdict
-    ensures { result ≡ Calls.state width picks head }
+    ensures { result ≡ TreeCalls.state_questions width picks head }
 {
     question::width(width)?;
     tree_width(width)?;
@@ -44,7 +44,7 @@ pub(crate) fn cycle(
     grants: usize,
     nodes: usize,
 ) -> Verdict
-    ensures { result ≡ Calls.questions width picks head requests.now grants nodes }
+    ensures { result ≡ TreeCalls.questions width picks head requests.now grants nodes }
 {
     state(width, picks, head)?;
     question::read_length(width, requests.len())?;

@@ -10,7 +10,7 @@ use Rattle.arbiter.specs.declared.refusal.Refusal.{Refusal}
 use Rattle.arbiter.specs.declared.refusal.Refusal.TheVariants.{Width, TreeWidth, Picks, HeadRange, ReadLength, WriteLength, NodesLength, NotABit, Acknowledge, SecondOne, FirstLine, InputLength, Code, UnusedBit, WaitingLength, Overflow}
 use Rattle.arbiter.specs.Questions.{Verdict, passed, ◌then◌}
 use Rattle.arbiter.specs.Refusals as Refusals
-use Rattle.arbiter.specs.Answers.{Outcome, number, made, decided, answered, if_passed, opens, opened, writes}
+use Rattle.arbiter.specs.Answers.{Effect, number, made, decided, answered, if_passed, opens, opened, writes}
 
 -- no refusal has the number of a served call
 pub refusal_number : (refusal : Refusal) → Refusals.number refusal ≡ 0 → ⊥
@@ -44,7 +44,7 @@ passed_is v a b z = rw z
 -- the same of a call that writes
 pub writes_passed : (v : Verdict) (s : State) (answer : Answer) (target former : List ℕ)
     → number (writes v s answer target former).answer ≡ 0 → v ≡ passed
-writes_passed v s answer target former z = served_passed v _ _ (λ (o : Outcome). number o.answer) (λ e f. refl) z
+writes_passed v s answer target former z = served_passed v _ _ (λ (o : Effect). number o.answer) (λ e f. refl) z
 
 pub writes_is : (v : Verdict) (s : State) (answer : Answer) (target former : List ℕ) → v ≡ passed
     → writes v s answer target former ≡ record { answer = answer; written = target }

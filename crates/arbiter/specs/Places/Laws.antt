@@ -7,7 +7,7 @@ use Rattle.std.proofs.lemmas.List.{length-replicate}
 use Rattle.std.specs.Prelude.{Option, None, Some, MatchOption}
 use Rattle.std.specs.List.{fold}
 use Rattle.rules.specs.Lists.{range, filter}
-use Rattle.rules.specs.Lists.Laws as Lists
+use Rattle.rules.specs.Lists.Laws as ListsLaws
 use Rattle.arbiter.specs.Places.{places, first, Bits, highest}
 
 -- a list without a first is empty
@@ -42,7 +42,7 @@ module _ {test : ℕ → Bool} {from i : ℕ} {bytes : List ℕ} (free : Free te
       record {
         at =
             λ k l u.
-            Lists.split (eqb k i)
+            ListsLaws.split (eqb k i)
             (λ q. ap (λ (j : ℕ). test (get_or bytes j 0)) (eqb-true k i q) ∙ e)
             (λ q. free.at k l (omega (arith, eqb-false k i q)));
       }
@@ -53,7 +53,7 @@ module _ {test : ℕ → Bool} {from i : ℕ} {bytes : List ℕ} (free : Free te
       record {
         at =
             λ k l u.
-            Lists.split (ltb k i)
+            ListsLaws.split (ltb k i)
             (λ q. free.at k l (ltb-true k i q))
             (λ q. e k (ltb-false k i q) u);
       }
@@ -61,20 +61,20 @@ module _ {test : ℕ → Bool} {from i : ℕ} {bytes : List ℕ} (free : Free te
   -- a search that comes to the end has found nothing
   pub places_none : length bytes ≤ i → places test from bytes ≡ []
   places_none l =
-      Lists.filter_none (λ k. test (get_or bytes k 0)) from (length bytes - from) (λ k n u. free.at k n (omega arith))
+      ListsLaws.filter_none (λ k. test (get_or bytes k 0)) from (length bytes - from) (λ k n u. free.at k n (omega arith))
 
   -- and one that stops has found the first
   pub places_first : from ≤ i → i < length bytes → test (get_or bytes i 0) ≡ true
       → places test from bytes ≡ i ∷ places test (suc i) bytes
   places_first l u t =
       let left : from + (length bytes - from) - suc i ≡ length bytes - suc i = omega arith in
-      Lists.filter_first (λ k. test (get_or bytes k 0)) from (length bytes - from) i l (omega arith) free.at t
+      ListsLaws.filter_first (λ k. test (get_or bytes k 0)) from (length bytes - from) i l (omega arith) free.at t
       ∙ rw left
 
   -- it may be left to another that goes on from there
   pub places_on : from ≤ i → places test i bytes ≡ places test from bytes
   places_on l =
-      Lists.split (ltb i (length bytes))
+      ListsLaws.split (ltb i (length bytes))
       (λ q.
       let n = i - from in
       let k = length bytes - i in
@@ -83,9 +83,9 @@ module _ {test : ℕ → Bool} {from i : ℕ} {bytes : List ℕ} (free : Free te
       let here : from + n ≡ i = omega arith in
       let p : ℕ → Bool = λ w. test (get_or bytes w 0) in
       sym (
-      ap (λ (m : ℕ). filter p (range from m)) all ∙ ap (filter p) (Lists.range_append from n k)
-      ∙ Lists.filter_append p (range from n) (range (from + n) k)
-      ∙ rw (Lists.filter_none p from n (λ w a b. free.at w a (omega arith)), here)
+      ap (λ (m : ℕ). filter p (range from m)) all ∙ ap (filter p) (ListsLaws.range_append from n k)
+      ∙ ListsLaws.filter_append p (range from n) (range (from + n) k)
+      ∙ rw (ListsLaws.filter_none p from n (λ w a b. free.at w a (omega arith)), here)
       ))
       (λ q.
       let past : length bytes ≤ i = ltb-false i (length bytes) q in
@@ -114,7 +114,7 @@ pub record Found (test : ℕ → Bool) (from i : ℕ) (bytes : List ℕ) : Type 
 pub found : (test : ℕ → Bool) (from i : ℕ) (bytes : List ℕ) → first (places test from bytes) ≡ Some i → Found test from i bytes
 found test from i bytes e =
     let q = first_some (places test from bytes) i e in
-    let r = Lists.first_of (λ k. test (get_or bytes k 0)) from (length bytes - from) i q.0 q.1 in
+    let r = ListsLaws.first_of (λ k. test (get_or bytes k 0)) from (length bytes - from) i q.0 q.1 in
     let left : from + (length bytes - from) - suc i ≡ length bytes - suc i = omega (arith, r.low, r.high) in
     record {
       low = r.low;
@@ -127,7 +127,7 @@ found test from i bytes e =
 -- where there is no such place no byte passes
 pub free_of : {test : ℕ → Bool} {from : ℕ} {bytes : List ℕ} → places test from bytes ≡ [] → Free test from (length bytes) bytes
 free_of {test} {from} {bytes} e =
-    record { at = λ k l u. Lists.none_of (λ i. test (get_or bytes i 0)) from (length bytes - from) k e l (omega arith) }
+    record { at = λ k l u. ListsLaws.none_of (λ i. test (get_or bytes i 0)) from (length bytes - from) k e l (omega arith) }
 
 -- where every byte is 0, none is 1
 pub no_one : {from to : ℕ} {bytes : List ℕ} → Free (ltb 0) from to bytes → (k : ℕ) → from ≤ k → k < to → eqb (get_or bytes k 0) 1 ≡ false

@@ -1,10 +1,11 @@
 -- Laws of several bytes as one number: how it is put together, and where its lowest byte that is not 0 stands.
+-- Promises `quiet`, `loud`, `parts` and `single`. The rest are steps of their proofs.
 -- Assumes nothing.
 use Rattle.std.specs.Prelude.{ℕ, zero, suc, ◌+◌, ◌-◌, ◌*◌, ◌/◌, ◌%◌, ◌^◌, ◌≤◌, ◌<◌, ◌≡◌, refl, List, [], ◌∷◌, ◌++◌, eqb, length, get_or, take, drop}
 use Rattle.std.proofs.Common.{sym, ap, ◌∙◌, zero-add, pow-suc, mul_comm, mul_assoc, arith, length-drop, length-take-le, drop-cons, drop-drop, take-add, get_or-take, get_or-drop, eqb-true}
 use Rattle.std.specs.Int.Count.{count_trailing_zeros}
 use Rattle.std.proofs.lemmas.Bool.{eqb-false}
-use Rattle.rules.specs.Lists.Laws as Lists
+use Rattle.rules.specs.Lists.Laws as ListsLaws
 use Rattle.arbiter.specs.Words.{number}
 
 -- j more digits
@@ -32,7 +33,7 @@ low_some zero k b r some small = absurd (omega arith)
 low_some (suc j) k b r some small =
     let n = b + 2 ^ suc j * r in
     let half : n / 2 ≡ b / 2 + 2 ^ j * r = omega (arith, scaled 2 j r) in
-    Lists.split (eqb (b % 2) 0)
+    ListsLaws.split (eqb (b % 2) 0)
     (λ e.
     let even : n % 2 ≡ 0 = omega (arith, scaled 2 j r, eqb-true (b % 2) 0 e) in
     rw (even, half) (omega (arith, low_some j k (b / 2) r (omega (arith, eqb-true (b % 2) 0 e)) (omega (arith, pow-suc 2 j)))))
@@ -72,7 +73,7 @@ lowest [] l some = absurd (some refl)
 lowest (b ∷ bs) l some =
     let n = number bs in
     let t = count_trailing_zeros (digits bs) n in
-    Lists.split (eqb b 0)
+    ListsLaws.split (eqb b 0)
     (λ e.
     let none : b ≡ 0 = eqb-true b 0 e in
     let shift : b + 256 * n ≡ 2 ^ 8 * n = omega arith in

@@ -5,8 +5,8 @@ use Rattle.std.specs.Prelude.{ℕ, ◌+◌, ◌-◌, ◌≤◌, ◌<◌, ◌≡�
 use Rattle.std.proofs.Common.{refl, sym, ap, ◌∙◌, arith, zero-add, ltb-true, ltb-false, le-ltb}
 use lib.ListN.{get_or-eq_default}
 use Rattle.rules.specs.Lists.{bit, range}
-use Rattle.rules.specs.Lists.Laws as Lists
-use Rattle.rules.proofs.RoundRobin.Laws as Rule
+use Rattle.rules.specs.Lists.Laws as ListsLaws
+use Rattle.rules.proofs.RoundRobin.Laws as RoundRobinLaws
 use Rattle.arbiter.specs.declared.State.{State}
 use Rattle.arbiter.specs.declared.refusal.Refusal.{Refusal}
 use Rattle.arbiter.specs.declared.refusal.Refusal.TheVariants.{Overflow}
@@ -19,24 +19,24 @@ use Rattle.arbiter.specs.Answers.{number, refused}
 use Rattle.arbiter.specs.Answers.Laws.{served_passed, passed_is, if_refused, passed_opened}
 use Rattle.arbiter.specs.Decisions.{requested}
 use Rattle.engines.specs.declared.Engine.{Engine}
-use Rattle.engines.specs.Calls as Engines
+use Rattle.engines.specs.Calls as EngineCalls
 use Rattle.engines.specs.Calls.Laws.{Served, engine_served, granted_asks, engine_serves, opens_allowed}
-use Rattle.backlog.specs.Calls.{Outcome, arrived, requests, taken, lent_questions, questions, cycle}
+use Rattle.backlog.specs.Calls.{BacklogEffect, arrived, requests, taken, lent_questions, questions, cycle}
 
 -- a table over the places of a list, where its entry is 0 past the end: it holds at each place the entry
 table_at : (f : ℕ → ℕ) (n w : ℕ) → (n ≤ w → f w ≡ 0) → get_or (map f (range 0 n)) w 0 ≡ f w
 table_at f n w past =
-    Lists.split (ltb w n)
-    (λ t. Lists.get_d_table f 0 n w (ltb-true w n t) ∙ rw zero-add)
+    ListsLaws.split (ltb w n)
+    (λ t. ListsLaws.get_d_table f 0 n w (ltb-true w n t) ∙ rw zero-add)
     (λ u.
     let out : n ≤ w = omega (arith, ltb-false w n u) in
-    get_or-eq_default (map f (range 0 n)) 0 {n = w} (omega (arith, Lists.length_table f 0 n)) ∙ sym (past out))
+    get_or-eq_default (map f (range 0 n)) 0 {n = w} (omega (arith, ListsLaws.length_table f 0 n)) ∙ sym (past out))
 
 -- the numbers after the arrivals
 module _ (waiting arrivals : List ℕ) where
   pub arrived_length : length (arrived waiting arrivals) ≡ length waiting
   unfolding arrived
-  arrived_length = Lists.length_table _ 0 (length waiting)
+  arrived_length = ListsLaws.length_table _ 0 (length waiting)
 
   pub arrived_at : length arrivals ≡ length waiting → (w : ℕ) → get_or (arrived waiting arrivals) w 0 ≡ get_or waiting w 0 + get_or arrivals w 0
   unfolding arrived
@@ -48,7 +48,7 @@ module _ (waiting arrivals : List ℕ) where
 module _ (numbers : List ℕ) where
   pub requests_length : length (requests numbers) ≡ length numbers
   unfolding requests
-  requests_length = Lists.length_table _ 0 (length numbers)
+  requests_length = ListsLaws.length_table _ 0 (length numbers)
 
   pub requests_at : (w : ℕ) → get_or (requests numbers) w 0 ≡ bit (ltb 0 (get_or numbers w 0))
   unfolding requests
@@ -56,17 +56,17 @@ module _ (numbers : List ℕ) where
 
   -- they are bits
   pub requests_bits : Bits (requests numbers)
-  requests_bits w l = omega (arith, requests_at w, Lists.bit_le (ltb 0 (get_or numbers w 0)))
+  requests_bits w l = omega (arith, requests_at w, ListsLaws.bit_le (ltb 0 (get_or numbers w 0)))
 
   -- a station asks exactly if its number is not 0
   pub requests_ask : (w : ℕ) → requested (requests numbers) w ≡ ltb 0 (get_or numbers w 0)
-  requests_ask w = rw (requests_at w) (Lists.bit_one _)
+  requests_ask w = rw (requests_at w) (ListsLaws.bit_one _)
 
 -- the numbers after the grants
 module _ (numbers grants : List ℕ) where
   pub taken_length : length (taken numbers grants) ≡ length numbers
   unfolding taken
-  taken_length = Lists.length_table _ 0 (length numbers)
+  taken_length = ListsLaws.length_table _ 0 (length numbers)
 
   pub taken_at : (w : ℕ) → get_or (taken numbers grants) w 0 ≡ get_or numbers w 0 - bit (requested grants w)
   unfolding taken
@@ -79,7 +79,7 @@ pub record Lent (e : Engine) (n : ℕ) (arrivals waiting : List ℕ) (grantsSize
   pub came : length arrivals ≡ n
   pub room : grantsSize ≡ n
   pub counted : length waiting ≡ n
-  pub space : Engines.nodes_question e n nodesSize ≡ passed
+  pub space : EngineCalls.nodes_question e n nodesSize ≡ passed
   pub fits : (w : ℕ) → w < n → get_or waiting w 0 + get_or arrivals w 0 ≤ max_waiting
 
 -- question 16 passes where all numbers stay within the most
@@ -94,9 +94,9 @@ lent e n arrivals waiting grantsSize nodesSize z =
     let five = Questions.read_length n (length arrivals) in
     let six = five then Questions.write_length n grantsSize in
     let fifteen = six then Questions.waiting_length n (length waiting) in
-    let seven = fifteen then Engines.nodes_question e n nodesSize in
+    let seven = fifteen then EngineCalls.nodes_question e n nodesSize in
     let d = then_served seven (Questions.overflow (arrived waiting arrivals)) z in
-    let c = then_served fifteen (Engines.nodes_question e n nodesSize) d.0 in
+    let c = then_served fifteen (EngineCalls.nodes_question e n nodesSize) d.0 in
     let b = then_served six (Questions.waiting_length n (length waiting)) c.0 in
     let a = then_served five (Questions.write_length n grantsSize) b.0 in
     let came : length arrivals ≡ n = length_served _ n (length arrivals) a.0 in
@@ -124,7 +124,7 @@ module _ (e : Engine) (s : State) (arrivals waiting grants nodes : List ℕ) whe
   numbers = arrived waiting arrivals
 
   -- a call whose questions pass leaves what it is to
-  pub passed_cycle : verdict ≡ passed → let o = Engines.cycle e s (requests numbers) grants nodes in
+  pub passed_cycle : verdict ≡ passed → let o = EngineCalls.cycle e s (requests numbers) grants nodes in
       cycle e s arrivals waiting grants nodes ≡ record {
         answer = o.answer;
         waiting = taken numbers o.grants;
@@ -142,34 +142,34 @@ module _ (e : Engine) (s : State) (arrivals waiting grants nodes : List ℕ) whe
 
   -- what is known where the questions pass
   pub lent_passed : verdict ≡ passed → Lent e s.width arrivals waiting (length grants) (length nodes)
-  lent_passed z = lent e s.width arrivals waiting (length grants) (length nodes) (then_served (Engines.questions e s.width s.picks s.head) _ z).1
+  lent_passed z = lent e s.width arrivals waiting (length grants) (length nodes) (then_served (EngineCalls.state_questions e s.width s.picks s.head) _ z).1
 
   -- the engine serves its cycle
-  pub engine_number : verdict ≡ passed → number (Engines.cycle e s (requests numbers) grants nodes).answer ≡ 0
+  pub engine_number : verdict ≡ passed → number (EngineCalls.cycle e s (requests numbers) grants nodes).answer ≡ 0
   engine_number z =
       let l = lent_passed z in
-      let opens = passed_opened _ s.width s.picks s.head (then_served (Engines.questions e s.width s.picks s.head) _ z).0 in
+      let opens = passed_opened _ s.width s.picks s.head (then_served (EngineCalls.state_questions e s.width s.picks s.head) _ z).0 in
       engine_serves s s.head (requests numbers) grants nodes (opens_allowed e s.width s.picks s.head opens).station
       (requests_length numbers ∙ arrived_length waiting arrivals ∙ l.counted)
       l.room (requests_bits numbers) e opens l.space
 
   -- so its grants are the rule's, and whoever is granted has a message waiting
-  pub granted_wait : verdict ≡ passed → (w : ℕ) → requested (Engines.cycle e s (requests numbers) grants nodes).grants w ≡ true
+  pub granted_wait : verdict ≡ passed → (w : ℕ) → requested (EngineCalls.cycle e s (requests numbers) grants nodes).grants w ≡ true
       → 1 ≤ get_or numbers w 0
   granted_wait z w t =
       let r = engine_served e s (requests numbers) grants nodes (engine_number z) in
       omega (arith, ltb-true 0 (get_or numbers w 0) (sym (requests_ask numbers w) ∙ granted_asks r w t))
 
   -- and its grant bytes are bits
-  pub granted_bits : verdict ≡ passed → Bits (Engines.cycle e s (requests numbers) grants nodes).grants
+  pub granted_bits : verdict ≡ passed → Bits (EngineCalls.cycle e s (requests numbers) grants nodes).grants
   granted_bits z w l =
       let r = engine_served e s (requests numbers) grants nodes (engine_number z) in
-      rw r.granted (Rule.grants_bit s.width s.picks s.head (requested (requests numbers)) w)
+      rw r.granted (RoundRobinLaws.grants_bit s.width s.picks s.head (requested (requests numbers)) w)
 
   -- a served call has passed its questions, and is by the rule
   pub served_passes : number (cycle e s arrivals waiting grants nodes).answer ≡ 0 → verdict ≡ passed
   unfolding cycle
-  served_passes z = served_passed verdict _ _ (λ (o : Outcome). number o.answer) (λ e f. refl) z
+  served_passes z = served_passed verdict _ _ (λ (o : BacklogEffect). number o.answer) (λ e f. refl) z
 
   pub backlog_served : let o = cycle e s arrivals waiting grants nodes in number o.answer ≡ 0 → Served s (requests numbers) o.answer o.grants
   backlog_served z =
@@ -183,6 +183,6 @@ module _ (e : Engine) (s : State) (arrivals waiting grants nodes : List ℕ) whe
   unfolding cycle
   backlog_refused n =
       if_refused verdict _ _
-      (λ (o : Outcome). (o.answer.state ≡ s) × (o.waiting ≡ waiting) × (o.grants ≡ grants) × (o.nodes ≡ nodes) × (o.answer.more ≡ false))
-      (λ p. n (ap (λ (o : Outcome). number o.answer) (passed_is verdict _ _ p) ∙ engine_number p))
+      (λ (o : BacklogEffect). (o.answer.state ≡ s) × (o.waiting ≡ waiting) × (o.grants ≡ grants) × (o.nodes ≡ nodes) × (o.answer.more ≡ false))
+      (λ p. n (ap (λ (o : BacklogEffect). number o.answer) (passed_is verdict _ _ p) ∙ engine_number p))
       (λ e f. (refl, refl, refl, refl, refl))

@@ -5,7 +5,7 @@ use Rattle.std.specs.Int.Count.{ones}
 use lib.ListN.{length-take}
 use lib.Seq.{drop-length}
 use borrow.Rule.Slice.PartMut.{put_mid}
-use Rattle.rules.proofs.KoggeStone.Laws as Network
+use Rattle.rules.proofs.KoggeStone.Laws as KoggeStoneLaws
 use Rattle.kogge_stone.proofs.count_round.Goals as goal
 
 -- what comes out of the network with a 0 before it, in a buffer l
@@ -22,8 +22,8 @@ read_off-requires-clause-counts_value c =
     let most : ones c.new-picks.result.code ≡ y.picks = omega (arith, c.new-picks.ensures, y.picked, y.picks_bound) in
     led _ _ (simp length-take (omega arith))
     ∙ ap {B = List ℕ} (λ l. 0 ∷ l) (c.run-more.ensures.codes_after ∙ rw most)
-    ∙ sym (Network.counts_shifted n y.picks y.head _)
-    ∙ Network.counts_running n y.picks y.head _ (omega arith)
+    ∙ sym (KoggeStoneLaws.counts_shifted n y.picks y.head _)
+    ∙ KoggeStoneLaws.counts_running n y.picks y.head _ (omega arith)
 
 pub read_off-requires-clause-more_value : goal.read_off-requires-clause-more_value
 read_off-requires-clause-more_value c =

@@ -1,4 +1,6 @@
 -- Laws of the one-hot image, and of question 10.
+-- Promises `image_length`, `image_bits`, `image_head`, `image_single`, `image_of`, `one_hot_none`, `one_hot_single`,
+-- `one_hot_second`, `one_below` and `read_answered`. The rest are steps of their proofs.
 -- Assumes nothing.
 use Rattle.std.specs.Prelude.{ℕ, suc, ◌+◌, ◌-◌, ◌<◌, ◌≡◌, refl, Bool, true, false, List, [], ◌∷◌, eqb, ltb, length, get_or, drop, replicate}
 use Rattle.std.proofs.Common.{sym, ap, ◌∙◌, arith, add-one, length-set, get_or-set_same, get_or-set_other, ext_get_or, eqb-true, ltb-false, eq-eqb, ne_eqb}
@@ -8,7 +10,7 @@ use Rattle.std.proofs.lemmas.Bool.{eqb-false}
 use Rattle.rules.specs.Head.{Head}
 use Rattle.std.specs.Prelude.{None, Some, Ok, Err}
 use Rattle.rules.specs.Lists.{bit, range, member}
-use Rattle.rules.specs.Lists.Laws as Lists
+use Rattle.rules.specs.Lists.Laws as ListsLaws
 use Rattle.rules.specs.RoundRobin.{start}
 use Rattle.rules.proofs.RoundRobin.Laws.{start_at}
 use Rattle.arbiter.specs.Places.{places, ones, first}
@@ -40,7 +42,7 @@ image_at : (n : ℕ) (h : Head) (i : ℕ) → i < n → get_or (image n h) i 0 �
 unfolding image here
 image_at n None i l = get_or-replicate n i 0 0 l
 image_at n (Some h) i l =
-    Lists.split (eqb i h)
+    ListsLaws.split (eqb i h)
     (λ e.
     let same : i ≡ h = eqb-true i h e in
     rw (e, same) (get_or-set_same (replicate n 0) h 1 0 (omega (arith, length-replicate {A = ℕ} n 0))))
@@ -62,7 +64,7 @@ image_bits n h =
 image_one : (n : ℕ) (h : Head) (i : ℕ) → i < length (image n h) → eqb (get_or (image n h) i 0) 1 ≡ here h i
 image_one n h i l =
     let in_image : i < n = omega (arith, image_length n h) in
-    ap (λ (b : ℕ). eqb b 1) (image_at n h i in_image) ∙ Lists.bit_one (here h i)
+    ap (λ (b : ℕ). eqb b 1) (image_at n h i in_image) ∙ ListsLaws.bit_one (here h i)
 
 -- the place of its 1, if it has one
 place_of : Head → List ℕ
@@ -115,10 +117,10 @@ image_of bytes bits single =
     let u : i < n = omega (arith, image_length n h) in
     let whole : i < 0 + (n - 0) = omega arith in
     let one : member i (ones 0 bytes) ≡ eqb (get_or bytes i 0) 1 =
-    Lists.member_filter (λ k. eqb (get_or bytes k 0) 1) i (range 0 (n - 0)) ∙ rw (Lists.member_range i 0 (n - 0) (omega arith) whole) in
+    ListsLaws.member_filter (λ k. eqb (get_or bytes k 0) 1) i (range 0 (n - 0)) ∙ rw (ListsLaws.member_range i 0 (n - 0) (omega arith) whole) in
     image_at n h i u
     ∙ ap bit (here_first (ones 0 bytes) i single ∙ one)
-    ∙ Lists.bit_byte (get_or bytes i 0) (ltb-false 1 (get_or bytes i 0) (free.at i (omega arith) u)))
+    ∙ ListsLaws.bit_byte (get_or bytes i 0) (ltb-false 1 (get_or bytes i 0) (free.at i (omega arith) u)))
 
 -- an image with no 1
 pub one_hot_none : (image : List ℕ) → first (ones 0 image) ≡ None → one_hot image ≡ passed

@@ -6,7 +6,7 @@ use Rattle.std.proofs.Common.{sym, ap, ◌∙◌, arith}
 use Rattle.std.proofs.lemmas.List.{length-map}
 use Rattle.rules.specs.Head.{Head}
 use Rattle.std.specs.Prelude.{None, Some, Err}
-use Rattle.rules.specs.Lists.Laws as Lists
+use Rattle.rules.specs.Lists.Laws as ListsLaws
 use Rattle.rules.specs.Packing.{packed_length}
 use Rattle.arbiter.specs.declared.refusal.Refusal.TheVariants.{UnusedBit}
 use Rattle.arbiter.specs.Places.{first, set_lines}
@@ -14,7 +14,7 @@ use Rattle.arbiter.specs.Places.Laws.{first_none, first_some}
 use Rattle.arbiter.specs.Questions as Questions
 use Rattle.arbiter.specs.Questions.{passed, refuse_at_first, ◌then◌}
 use Rattle.arbiter.specs.Questions.Laws.{then_served, width_served, one_pick_served, head_served, length_served, first_served, Allowed}
-use Rattle.packed_scan.specs.Calls.{state, questions}
+use Rattle.packed_scan.specs.Calls.{state_questions, questions}
 use Rattle.packed_scan.specs.Lines.{Packed, in_byte}
 use Rattle.packed_scan.specs.Lines.Laws.{in_some, in_place}
 
@@ -23,7 +23,7 @@ pub record OnePick (n m : ℕ) (h : Head) : Type 0 where
   pub allows : Allowed n m h
   pub one : m ≡ 1
 
-pub one_pick_lem : (n m : ℕ) (h : Head) → state n m h ≡ passed → OnePick n m h
+pub one_pick_lem : (n m : ℕ) (h : Head) → state_questions n m h ≡ passed → OnePick n m h
 one_pick_lem n m h z =
     let b = then_served (Questions.width n then Questions.one_pick m) (Questions.head n h) z in
     let a = then_served (Questions.width n) (Questions.one_pick m) b.0 in
@@ -48,12 +48,12 @@ pub record Sized (n m : ℕ) (h : Head) (asked size : ℕ) : Type 0 where
   pub room : size ≡ packed_length n
 
 pub sized : (n m : ℕ) (h : Head) (asked size : ℕ)
-    → (state n m h then Questions.read_length (packed_length n) asked then Questions.write_length (packed_length n) size) ≡ passed
+    → (state_questions n m h then Questions.read_length (packed_length n) asked then Questions.write_length (packed_length n) size) ≡ passed
     → Sized n m h asked size
 sized n m h asked size z =
-    let five = state n m h then Questions.read_length (packed_length n) asked in
+    let five = state_questions n m h then Questions.read_length (packed_length n) asked in
     let b = then_served five (Questions.write_length (packed_length n) size) z in
-    let a = then_served (state n m h) (Questions.read_length (packed_length n) asked) b.0 in
+    let a = then_served (state_questions n m h) (Questions.read_length (packed_length n) asked) b.0 in
     record {
       state = one_pick_lem n m h a.0;
       long = length_served _ (packed_length n) asked a.1;
@@ -81,7 +81,7 @@ pub record Ready (n m : ℕ) (h : Head) (requests : List ℕ) (size : ℕ) : Typ
 
 pub ready : (n m : ℕ) (h : Head) (requests : List ℕ) (size : ℕ) → questions n m h requests size ≡ passed → Ready n m h requests size
 ready n m h requests size z =
-    let unread = state n m h then Questions.read_length (packed_length n) (length requests) then Questions.write_length (packed_length n) size in
+    let unread = state_questions n m h then Questions.read_length (packed_length n) (length requests) then Questions.write_length (packed_length n) size in
     let c = then_served unread (Questions.unused_bits n requests) z in
     let l = sized n m h (length requests) size c.0 in
     let none = first_served _ (map (λ i. i / 8) (set_lines n requests)) c.1 in
@@ -90,7 +90,7 @@ ready n m h requests size z =
       packed = record {
         most = l.state.allows.most;
         long = l.long;
-        unused = Lists.empty (set_lines n requests) (sym (length-map (set_lines n requests) (λ i. i / 8)) ∙ ap length none);
+        unused = ListsLaws.empty (set_lines n requests) (sym (length-map (set_lines n requests) (λ i. i / 8)) ∙ ap length none);
       };
       room = l.room;
     }

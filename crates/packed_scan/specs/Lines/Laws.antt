@@ -1,4 +1,8 @@
 -- Laws of the set lines of packed bytes: how a search by the table finds the first, and that it is whom the rule grants.
+-- Promises `table_entry`, `listed_some`, `listed_none`, `set_past`, `set_home`, `set_none`, `set_after`, `some_entry`,
+-- `in_some`, `in_place`, `in_none`, `in_last`, `round_quiet`, `highest_zero`, `Next`, `next_some`, `next_within`, `next_bound`,
+-- `next_none`, `round_high`, `round_low`, `round_next`, `round_some`, `round_other`, `round_granted`, `none_decides`,
+-- `none_grants`, `one_below`, `one_grants` and `one_decides`. The rest are steps of their proofs.
 -- Assumes nothing.
 use Rattle.std.specs.Prelude.{Option, IfSome, ℕ, ◌+◌, ◌-◌, ◌*◌, ◌/◌, ◌%◌, ◌^◌, ◌≤◌, ◌<◌, ◌≡◌, refl, Bool, true, false, not, nat_eq, ◌⊎◌, List, [], ◌∷◌, ◌++◌, map, eqb, ltb, length, get_or, take, set, replicate}
 use Rattle.std.proofs.lemmas.List.{get_or-map}
@@ -9,15 +13,15 @@ use borrow.Author.Tests.{lt-ltb}
 use Rattle.rules.specs.Head.{Head}
 use Rattle.std.specs.Prelude.{None, Some}
 use Rattle.rules.specs.Lists.{range, marks}
-use Rattle.rules.specs.Lists.Laws as Lists
+use Rattle.rules.specs.Lists.Laws as ListsLaws
 use Rattle.std.specs.Cmp.Lexicographic.{same_text, other_text}
 use lib.Pointwise.{pointwise}
 use Rattle.rules.specs.Pending.{more}
-use Rattle.rules.proofs.Pending.Laws as Pending
+use Rattle.rules.proofs.Pending.Laws as PendingLaws
 use Rattle.rules.specs.Packing.{line, wire, unpack, packed_length, pack, first_line, entries}
-use Rattle.rules.proofs.Packing.Laws as Packing
+use Rattle.rules.proofs.Packing.Laws as PackingLaws
 use Rattle.rules.specs.RoundRobin.{start, granted, grants}
-use Rattle.rules.proofs.RoundRobin.Laws as RoundRobin
+use Rattle.rules.proofs.RoundRobin.Laws as RoundRobinLaws
 use Rattle.arbiter.specs.Places.{ones, nonzero, set_lines, first, highest}
 use Rattle.arbiter.specs.Places.Laws.{first_none, Free, free_none, free_on, free_of, places_none, places_first, Found, found, is_zero, highest_most}
 use Rattle.arbiter.specs.Decisions.{requested, decision, deciding, counted}
@@ -34,13 +38,13 @@ pub table_entry : (rows : List (List ℕ)) (d : List ℕ) {byte start : ℕ} →
     → get_or (get_or rows start d) byte 0 ≡ first_line byte start
 table_entry rows d {byte} {start} e small l =
     let row : get_or rows start d ≡ entries start =
-    ap (λ (t : List (List ℕ)). get_or t start d) e ∙ get_or-map entries (range 0 8) start 0 d l ∙ ap entries (Lists.get_d_table (λ i. i) 0 8 start l ∙ zero-add start) in
-    Packing.entry_at start (get_or rows start d) row small refl
+    ap (λ (t : List (List ℕ)). get_or t start d) e ∙ get_or-map entries (range 0 8) start 0 d l ∙ ap entries (ListsLaws.get_d_table (λ i. i) 0 8 start l ∙ zero-add start) in
+    PackingLaws.entry_at start (get_or rows start d) row small refl
 
 -- an entry names a line exactly if it is below 8
 pub listed_some : (entry line : ℕ) → listed entry ≡ Some line → (line ≡ entry) × (line < 8)
 listed_some entry line e =
-    Lists.split (ltb entry 8)
+    ListsLaws.split (ltb entry 8)
     (λ t.
     let named : Some entry ≡ Some line = rw t at e in
     let same : line ≡ entry = cc in
@@ -49,7 +53,7 @@ listed_some entry line e =
 
 pub listed_none : (entry : ℕ) → listed entry ≡ None → 8 ≤ entry
 listed_none entry e =
-    Lists.split (ltb entry 8)
+    ListsLaws.split (ltb entry 8)
     (λ t. let some : Some entry ≡ None = rw t at e in let no : ⊥ = cc in absurd no)
     (λ f. ltb-false entry 8 f)
 
@@ -59,17 +63,17 @@ module _ (packed : List ℕ) where
   lines = unpack (8 * length packed) packed
 
   lines_length : length lines ≡ 8 * length packed
-  lines_length = Packing.unpack_length (8 * length packed) packed
+  lines_length = PackingLaws.unpack_length (8 * length packed) packed
 
   -- line j of byte k
   line_at : (k j : ℕ) → k < length packed → j < 8 → get_or lines (8 * k + j) 0 ≡ line (get_or packed k 0) j
-  line_at k j l u = Packing.unpack_at (8 * length packed) packed (8 * k + j) (omega arith) ∙ Packing.wire_at packed k j u
+  line_at k j l u = PackingLaws.unpack_at (8 * length packed) packed (8 * k + j) (omega arith) ∙ PackingLaws.wire_at packed k j u
 
   -- no line of a byte is set from a start up to the table's entry
   entry_free : (k start : ℕ) → k < length packed → start < 8
       → Free is_set (8 * k + start) (8 * k + first_line (get_or packed k 0) start) lines
   entry_free k start l u =
-      let e = Packing.entry (get_or packed k 0) start (omega arith) in
+      let e = PackingLaws.entry (get_or packed k 0) start (omega arith) in
       record {
         at = λ i a b.
             let here : 8 * k + (i - 8 * k) ≡ i = omega arith in
@@ -83,7 +87,7 @@ module _ (packed : List ℕ) where
   entry_set : (k start : ℕ) → k < length packed → start < 8 → first_line (get_or packed k 0) start < 8
       → is_set (get_or lines (8 * k + first_line (get_or packed k 0) start) 0) ≡ true
   entry_set k start l u below =
-      let e = Packing.entry (get_or packed k 0) start (omega arith) in
+      let e = PackingLaws.entry (get_or packed k 0) start (omega arith) in
       eq-eqb _ 1 (line_at k (first_line (get_or packed k 0) start) l below ∙ e.set below)
 
   -- no line is set of bytes that are 0
@@ -97,7 +101,7 @@ module _ (packed : List ℕ) where
             (ap (λ (x : ℕ). get_or lines x 0) (sym here)
             ∙ line_at (i / 8) (i % 8) (omega arith) (omega arith)
             ∙ ap (λ (x : ℕ). line x (i % 8)) zero
-            ∙ Packing.line_zero (i % 8));
+            ∙ PackingLaws.line_zero (i % 8));
       }
 
   -- a search from a line on: past the last byte there is none
@@ -109,7 +113,7 @@ module _ (packed : List ℕ) where
     pub set_home : entry < 8 → Some (8 * (from / 8) + entry) ≡ first (set_lines from packed)
     set_home below =
         let home : 8 * (from / 8) + from % 8 ≡ from = omega arith in
-        let e = Packing.entry (get_or packed (from / 8) 0) (from % 8) (omega arith) in
+        let e = PackingLaws.entry (get_or packed (from / 8) 0) (from % 8) (omega arith) in
         let small : first_line (get_or packed (from / 8) 0) (from % 8) < 8 = omega (arith, is) in
         let free = rw home at (entry_free (from / 8) (from % 8) within (omega arith)) in
         rw is
@@ -119,7 +123,7 @@ module _ (packed : List ℕ) where
     home_free : 8 ≤ entry → Free is_set from (8 * (from / 8 + 1)) lines
     home_free full =
         let home : 8 * (from / 8) + from % 8 ≡ from = omega arith in
-        let e = Packing.entry (get_or packed (from / 8) 0) (from % 8) (omega arith) in
+        let e = PackingLaws.entry (get_or packed (from / 8) 0) (from % 8) (omega arith) in
         let end : 8 * (from / 8) + first_line (get_or packed (from / 8) 0) (from % 8) ≡ 8 * (from / 8 + 1) = omega (arith, is, e.most) in
         rw (home, end) at (entry_free (from / 8) (from % 8) within (omega arith))
 
@@ -142,7 +146,7 @@ module _ (packed : List ℕ) where
 
 -- the entry of a byte that is not 0
 pub some_entry : (byte line : ℕ) → 0 < byte → byte < 256 → line ≡ first_line byte 0 → line < 8
-some_entry byte line some small e = omega (arith, e, Packing.some_line byte some small)
+some_entry byte line some small e = omega (arith, e, PackingLaws.some_line byte some small)
 
 -- from the first line on: in the first byte that is not 0
 set_first : (packed : List ℕ) (k line : ℕ) → Found (ltb 0) 0 k packed → line ≡ first_line (get_or packed k 0) 0 → line < 8
@@ -261,7 +265,7 @@ module _ (packed : List ℕ) (home : ℕ) (within : home < length packed) where
       let high : Free (ltb 0) (home + 1) (length packed) packed = free_of none in
       record {
         at = λ k _ u.
-            Lists.split (ltb k (home + 1))
+            ListsLaws.split (ltb k (home + 1))
             (λ t.
             let l = ltb-true k (home + 1) t in
             ap (ltb 0) (sym (get_or-take (home + 1) packed k 0 l)) ∙ low.at k (omega arith) (omega (arith, upto_length)))
@@ -304,7 +308,7 @@ module _ (packed : List ℕ) (from : ℕ) (within : from < 8 * length packed) (n
       let part : length (lines (take end packed)) ≡ 8 * end = lines_length (take end packed) ∙ ap (λ (k : ℕ). 8 * k) upto in
       let short : set_lines 0 packed ≡ set_lines 0 (take end packed) =
       rw part
-      (Lists.filter_upto (λ i. is_set (get_or (lines packed) i 0)) (λ i. is_set (get_or (lines (take end packed)) i 0)) 0 (8 * end) (length (lines packed))
+      (ListsLaws.filter_upto (λ i. is_set (get_or (lines packed) i 0)) (λ i. is_set (get_or (lines (take end packed)) i 0)) 0 (8 * end) (length (lines packed))
       (omega arith)
       (omega (arith, all))
       (λ i _ u. low_same i u)
@@ -346,7 +350,7 @@ round_other packed from k within none e small =
 
 -- lists that are the same are told to be
 same_told : (xs ys : List ℕ) → xs ≡ ys → pointwise nat_eq xs ys ≡ true
-same_told xs ys e = Lists.split (pointwise nat_eq xs ys) (λ t. t) (λ f. absurd (other_text xs ys (sym f) e))
+same_told xs ys e = ListsLaws.split (pointwise nat_eq xs ys) (λ t. t) (λ f. absurd (other_text xs ys (sym f) e))
 
 -- the packed wires of n stations
 module _ (n : ℕ) (packed : List ℕ) (p : Packed n packed) where
@@ -358,27 +362,27 @@ module _ (n : ℕ) (packed : List ℕ) (p : Packed n packed) where
   as_ones : (from : ℕ) → from ≤ n → set_lines from packed ≡ ones from (unpack n packed)
   as_ones from l =
       let all = lines_length packed in
-      let wires = Packing.unpack_length n packed in
+      let wires = PackingLaws.unpack_length n packed in
       rw wires
-      (Lists.filter_upto (λ i. is_set (get_or (lines packed) i 0)) (λ i. is_set (get_or (unpack n packed) i 0)) from n (length (lines packed))
+      (ListsLaws.filter_upto (λ i. is_set (get_or (lines packed) i 0)) (λ i. is_set (get_or (unpack n packed) i 0)) from n (length (lines packed))
       l
       (omega (arith, all, p.long))
-      (λ i _ u. ap is_set (Packing.unpack_at (8 * length packed) packed i (omega (arith, p.long)) ∙ sym (Packing.unpack_at n packed i u)))
+      (λ i _ u. ap is_set (PackingLaws.unpack_at (8 * length packed) packed i (omega (arith, p.long)) ∙ sym (PackingLaws.unpack_at n packed i u)))
       past_free.at)
 
   -- and the bytes are the packed form of them
   unused_zero : (i : ℕ) → n ≤ i → wire packed i ≡ 0
   unused_zero i l =
-      Lists.split (ltb i (8 * length packed))
+      ListsLaws.split (ltb i (8 * length packed))
       (λ t.
       let u = ltb-true i (8 * length packed) t in
-      let at = Packing.unpack_at (8 * length packed) packed i u in
+      let at = PackingLaws.unpack_at (8 * length packed) packed i u in
       omega (arith, eqb-false _ 1 (sym (ap is_set at) ∙ past_free.at i l (omega (arith, lines_length packed)))))
       (λ f.
-      rw (get_or-eq_default packed 0 {n = i / 8} (omega (arith, ltb-false i (8 * length packed) f))) (Packing.line_zero (i % 8)))
+      rw (get_or-eq_default packed 0 {n = i / 8} (omega (arith, ltb-false i (8 * length packed) f))) (PackingLaws.line_zero (i % 8)))
 
   as_packed : ((k : ℕ) → get_or packed k 0 < 256) → pack (unpack n packed) ≡ packed
-  as_packed small = Packing.pack_unpack n packed p.long small unused_zero
+  as_packed small = PackingLaws.pack_unpack n packed p.long small unused_zero
 
   -- so packed grants are the requests exactly if the wires are the unpacked ones
   packed_more : (h : Head) → start h < n → ((k : ℕ) → get_or packed k 0 < 256) → (b : Bool)
@@ -387,27 +391,27 @@ module _ (n : ℕ) (packed : List ℕ) (p : Packed n packed) where
   packed_more h station small b e =
       let wires = unpack n packed in
       let out = grants n 1 h (requested wires) in
-      let long : length wires ≡ n = Packing.unpack_length n packed in
+      let long : length wires ≡ n = PackingLaws.unpack_length n packed in
       let back : unpack n (pack out) ≡ out =
-      rw (RoundRobin.grants_length n 1 h (requested wires)) at (Packing.unpack_pack out (RoundRobin.grants_bit n 1 h (requested wires))) in
+      rw (RoundRobinLaws.grants_length n 1 h (requested wires)) at (PackingLaws.unpack_pack out (RoundRobinLaws.grants_bit n 1 h (requested wires))) in
       let same : pointwise nat_eq packed (pack out) ≡ pointwise nat_eq wires out =
-      Lists.both_ways _ _
+      ListsLaws.both_ways _ _
       (λ t. same_told wires out (ap (unpack n) (same_text packed (pack out) (sym t)) ∙ back))
       (λ t. same_told packed (pack out) (sym (as_packed small) ∙ ap pack (same_text wires out (sym t)))) in
-      Pending.more_bytes n 1 h wires long (omega (arith, station)) (λ w _. Packing.unpack_bit n packed w) b (e ∙ ap not same)
+      PendingLaws.more_bytes n 1 h wires long (omega (arith, station)) (λ w _. PackingLaws.unpack_bit n packed w) b (e ∙ ap not same)
 
   -- and the first once round is whom the rule grants
   module _ (h : Head) (station : start h < n) where
     abbrev wires : List ℕ
     wires = unpack n packed
 
-    granted_by : (f : Head) → first (ones (start h) wires) ≡ f → first (ones (start h) wires ++ ones 0 wires) ≡ first (granted n 1 h (requested wires))
+    granted_by : (f : Option ℕ) → first (ones (start h) wires) ≡ f → first (ones (start h) wires ++ ones 0 wires) ≡ first (granted n 1 h (requested wires))
     granted_by None e =
         ap (λ (high : List ℕ). first (high ++ ones 0 wires)) (first_none (ones (start h) wires) e)
-        ∙ OnePick.found_low n h wires station (Packing.unpack_length n packed) e
+        ∙ OnePick.found_low n h wires station (PackingLaws.unpack_length n packed) e
     granted_by (Some w) e =
         OnePick.first_append (ones (start h) wires) (ones 0 wires) w e
-        ∙ OnePick.found_high n h wires station (Packing.unpack_length n packed) w e
+        ∙ OnePick.found_high n h wires station (PackingLaws.unpack_length n packed) w e
 
     pub round_granted : first (set_lines (start h) packed ++ set_lines 0 packed) ≡ first (granted n 1 h (requested (unpack n packed)))
     round_granted = rw (as_ones (start h) (omega arith), as_ones 0 (omega arith)) (granted_by _ refl)
@@ -421,7 +425,7 @@ module _ (n : ℕ) (packed : List ℕ) (p : Packed n packed) where
       none_decides = decided_none n 1 h (requested wires) (omega arith) (omega (arith, station)) nobody
 
       pub none_grants : replicate (packed_length n) 0 ≡ pack (grants n 1 h (requested (unpack n packed)))
-      none_grants = sym (ap pack (RoundRobin.grants_marks n 1 h (requested wires) ∙ ap (marks n) nobody) ∙ Packing.pack_none n)
+      none_grants = sym (ap pack (RoundRobinLaws.grants_marks n 1 h (requested wires) ∙ ap (marks n) nobody) ∙ PackingLaws.pack_none n)
 
     -- it is station w: that is granted, and nobody else
     module _ (w : ℕ) (e : first (set_lines (start h) packed ++ set_lines 0 packed) ≡ Some w) where
@@ -432,7 +436,7 @@ module _ (n : ℕ) (packed : List ℕ) (p : Packed n packed) where
       one_below = OnePick.granted_below n h (requested wires) station w (sym round_granted ∙ e)
 
       pub one_grants : set (replicate (packed_length n) 0) (w / 8) (2 ^ (w % 8)) ≡ pack (grants n 1 h (requested (unpack n packed)))
-      one_grants = sym (ap pack (RoundRobin.grants_marks n 1 h (requested wires) ∙ ap (marks n) only) ∙ Packing.pack_one n w one_below)
+      one_grants = sym (ap pack (RoundRobinLaws.grants_marks n 1 h (requested wires) ∙ ap (marks n) only) ∙ PackingLaws.pack_one n w one_below)
 
       -- more are pending exactly if these grants are not the requests
       pub one_decides : ((k : ℕ) → get_or packed k 0 < 256) → (b : Bool)

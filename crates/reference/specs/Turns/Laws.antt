@@ -1,4 +1,5 @@
 -- Laws of the model.
+-- Promises `distance_le`, `reach_le` and `some_le`. The rest are steps of their proofs.
 -- Assumes nothing.
 use Rattle.std.specs.Prelude.{ℕ, ◌-◌, ◌≤◌, ◌≡◌, List, [], ◌∷◌, Some, map, filter, fold, max}
 use Rattle.std.specs.List.{range_with_len, reduce}

@@ -6,56 +6,56 @@ use Rattle.std.specs.Prelude.{Some}
 use Rattle.std.specs.List.{list_any}
 use Rattle.rules.specs.Lists.{bit, range, count, member, marks, before}
 use Rattle.rules.specs.RoundRobin.{start, order}
-use Rattle.rules.proofs.RoundRobin.Laws as RoundRobin
+use Rattle.rules.proofs.RoundRobin.Laws as RoundRobinLaws
 use Rattle.rules.specs.Pending.{more}
-use Rattle.rules.proofs.Pending.Laws as Pending
+use Rattle.rules.proofs.Pending.Laws as PendingLaws
 use Rattle.rules.specs.Bus.{granted, grants, after, next}
 
 -- the token is a head of the order
 pub token_head : (n t : ℕ) → t < n → start (Some t) < n
-token_head n t token = rw (RoundRobin.start_at t) token
+token_head n t token = rw (RoundRobinLaws.start_at t) token
 
 -- somebody is granted if somebody asks
 pub granted_some : (n t w : ℕ) (asks : ℕ → Bool) → t < n → w < n → asks w ≡ true → 0 < length (granted n t asks)
 unfolding granted
 granted_some n t w asks token station asking =
     let head = token_head n t token in
-    omega (arith, RoundRobin.granted_length n 1 (Some t) asks, RoundRobin.before_count n (Some t) asks w (omega arith) station asking)
+    omega (arith, RoundRobinLaws.granted_length n 1 (Some t) asks, RoundRobinLaws.before_count n (Some t) asks w (omega arith) station asking)
 
 -- with one pick nobody else is
 pub granted_few : (n t : ℕ) (asks : ℕ → Bool) → length (granted n t asks) ≤ 1
 unfolding granted
-granted_few n t asks = omega (arith, RoundRobin.granted_length n 1 (Some t) asks)
+granted_few n t asks = omega (arith, RoundRobinLaws.granted_length n 1 (Some t) asks)
 
 -- the grant buffer marks the granted
 pub grants_marks : (n t : ℕ) (asks : ℕ → Bool) → grants n t asks ≡ marks n (granted n t asks)
 unfolding granted grants
-grants_marks n t asks = RoundRobin.grants_marks n 1 (Some t) asks
+grants_marks n t asks = RoundRobinLaws.grants_marks n 1 (Some t) asks
 
 -- the grant buffer is 1 for the granted, and 0 for the others
 pub grants_member : (n t : ℕ) (asks : ℕ → Bool) (w : ℕ) → w < n → get_or (grants n t asks) w 0 ≡ bit (member w (granted n t asks))
 unfolding granted grants
-grants_member n t asks w station = RoundRobin.grants_member n 1 (Some t) asks w station
+grants_member n t asks w station = RoundRobinLaws.grants_member n 1 (Some t) asks w station
 
 -- as many of its bytes are 1 as stations are granted
 pub grants_count : (n t : ℕ) (asks : ℕ → Bool) → t < n → count (λ b. eqb b 1) (grants n t asks) ≡ length (granted n t asks)
 unfolding granted grants
 grants_count n t asks token =
-    let head = token_head n t token in RoundRobin.grants_count n 1 (Some t) asks (omega arith)
+    let head = token_head n t token in RoundRobinLaws.grants_count n 1 (Some t) asks (omega arith)
 
 -- more are pending if somebody asks and has a 0 in it
 pub more_told : (n t : ℕ) (asks : ℕ → Bool) → t < n → more n asks (granted n t asks) ≡ list_any (λ w. asks w && eqb (get_or (grants n t asks) w 0) 0) (range 0 n)
 unfolding granted grants
 more_told n t asks token =
-    let head = token_head n t token in Pending.more_told n 1 (Some t) asks (omega (arith, head))
+    let head = token_head n t token in PendingLaws.more_told n 1 (Some t) asks (omega (arith, head))
 
 -- the station at the token is granted if it asks
 pub grants_token : (n t : ℕ) (asks : ℕ → Bool) → t < n → asks t ≡ true → get_or (grants n t asks) t 0 ≡ 1
 unfolding grants
 grants_token n t asks token asking =
     let head = token_head n t token in
-    let first : before t (order n (Some t)) ≡ [] = rw (RoundRobin.start_at t) at (RoundRobin.before_first n (Some t) head) in
-    rw (RoundRobin.grants_member n 1 (Some t) asks t token, RoundRobin.granted_member n 1 (Some t) asks t (omega arith) token, asking, first)
+    let first : before t (order n (Some t)) ≡ [] = rw (RoundRobinLaws.start_at t) at (RoundRobinLaws.before_first n (Some t) head) in
+    rw (RoundRobinLaws.grants_member n 1 (Some t) asks t token, RoundRobinLaws.granted_member n 1 (Some t) asks t (omega arith) token, asking, first)
 
 -- without an acknowledge the token stays
 pub next_unacknowledged : (n t : ℕ) (asks : ℕ → Bool) → next n t false asks ≡ t

@@ -1,4 +1,6 @@
 -- Laws of the network: it counts what the serial counts say, since the adder may be regrouped.
+-- Promises `Left`, `begin`, `step`, `done`, `network_levels`, `network_cut`, `network_length`, `counts_length`,
+-- `counts_running`, `count_serial` and `network_more`. The rest are steps of their proofs.
 -- Assumes nothing.
 use Prim.Native.Nat.{ℕ, zero, suc, ◌+◌, ◌-◌, ◌*◌, ◌^◌, ◌≤◌, ◌<◌}
 use Rattle.std.specs.Prelude.{◌≡◌, refl, Bool, true, false, ◌||◌, min, ltb, take}
@@ -11,9 +13,9 @@ use Rattle.std.proofs.Math.ListN.{length, get_or, length-map}
 use Rattle.std.proofs.Math.Seq.{ext_get_or}
 use Rattle.rules.specs.Head.{Head}
 use Rattle.rules.specs.Lists.{bit, range, filter, count}
-use Rattle.rules.specs.Lists.Laws as Lists
+use Rattle.rules.specs.Lists.Laws as ListsLaws
 use Rattle.rules.specs.RoundRobin.{start, order}
-use Rattle.rules.proofs.RoundRobin.Laws as RoundRobin
+use Rattle.rules.proofs.RoundRobin.Laws as RoundRobinLaws
 use Rattle.rules.specs.Thermometer.{code, is_code, add, cuts, saturated, input, inputs, running, running_codes}
 use Rattle.rules.proofs.Thermometer.Laws.{ones_code, ones_add, add_none, add_regroup}
 use Rattle.rules.proofs.Thermometer.Running.{running_first, running_next, inputs_codes, inputs_length, inputs_order, codes_inputs, codes_length, code_before}
@@ -99,7 +101,7 @@ widen m d ins codes some w =
       long = joined_length m d codes ∙ w.long;
       near =
           λ p l u.
-          Lists.split (ltb p d)
+          ListsLaws.split (ltb p d)
           (λ t. joined_near m d codes p (omega (arith, w.long)) (ltb-true p d t) ∙ w.near p l (ltb-true p d t))
           (λ f.
           let over : d ≤ p = ltb-false p d f in
@@ -126,7 +128,7 @@ whole : (m : ℕ) (ins codes : List ℕ) (c k : ℕ) → length ins ≤ k + c �
 whole m ins codes zero k l w p u =
     rw (from_none (length ins) k (length ins - k) (omega (arith, pow_more k)), levels_none m codes) (w.near p u (omega (arith, pow_more k)))
 whole m ins codes (suc c) k l w p u =
-    Lists.split (ltb (2 ^ k) (length ins))
+    ListsLaws.split (ltb (2 ^ k) (length ins))
     (λ t.
     rw (from_next (length ins) k (ltb-true (2 ^ k) (length ins) t), levels_next m (2 ^ k) (from (length ins) (suc k)) codes)
     (whole m ins (joined m (2 ^ k) codes) c (suc k) (omega arith) (rw (← pow-suc 2 k) at (widen m (2 ^ k) ins codes (pow_pos k) w)) p u))
@@ -201,10 +203,10 @@ module _ (m : ℕ) (asks : ℕ → Bool) (ws : List ℕ) (some : 1 ≤ m) where
   upto p = count asks (take p ws)
 
   upto_more : (p q : ℕ) → p ≤ q → upto p ≤ upto q
-  upto_more p q l = omega (arith, Lists.count_take_le asks p (take q ws), ap (count asks) (take-take p q ws l))
+  upto_more p q l = omega (arith, ListsLaws.count_take_le asks p (take q ws), ap (count asks) (take-take p q ws l))
 
   upto_next : (p : ℕ) → p < length ws → upto (suc p) ≡ upto p + bit (asks (get_or ws p 0))
-  upto_next p l = ap (count asks) (take-suc ws p 0 l) ∙ Lists.count_append asks (take p ws) (get_or ws p 0 ∷ []) ∙ omega arith
+  upto_next p l = ap (count asks) (take-suc ws p 0 l) ∙ ListsLaws.count_append asks (take p ws) (get_or ws p 0 ∷ []) ∙ omega arith
 
   -- how many of the d positions up to p ask, or of all of them where they are fewer
   abbrev window : ℕ → ℕ → ℕ
@@ -221,7 +223,7 @@ module _ (m : ℕ) (asks : ℕ → Bool) (ws : List ℕ) (some : 1 ≤ m) where
         long = joined_length m d codes ∙ c.long;
         each =
             λ p l.
-            Lists.split (ltb p d)
+            ListsLaws.split (ltb p d)
             (λ t.
             let u = ltb-true p d t in
             let all : suc p - d ≡ 0 = omega arith in
@@ -241,7 +243,7 @@ module _ (m : ℕ) (asks : ℕ → Bool) (ws : List ℕ) (some : 1 ≤ m) where
   cut_more : (d : ℕ) (codes : List ℕ) → Counted d codes → joined_cuts m d codes ≡ true → m < count asks ws
   unfolding cuts
   cut_more d codes c e =
-      let r = Lists.any_found _ d (length codes - d) (sym (joined_cuts_any m d codes) ∙ e) in
+      let r = ListsLaws.any_found _ d (length codes - d) (sym (joined_cuts_any m d codes) ∙ e) in
       let p = r.0 in
       let fits : p < length ws = omega (arith, c.long, r.1, r.2) in
       let here : suc (p - d) ≡ suc p - d = omega (arith, r.1) in
@@ -253,7 +255,7 @@ module _ (m : ℕ) (asks : ℕ → Bool) (ws : List ℕ) (some : 1 ≤ m) where
         c.each p fits,
         upto_more (suc p - d - d) (suc p - d) (omega arith),
         upto_more (suc p - d) (suc p) (omega arith),
-        Lists.count_take_le asks (suc p) ws,
+        ListsLaws.count_take_le asks (suc p) ws,
       )
 
   -- and after one that does not, if the windows were no more than m, the next are not
@@ -263,7 +265,7 @@ module _ (m : ℕ) (asks : ℕ → Bool) (ws : List ℕ) (some : 1 ≤ m) where
   uncut_few : (d : ℕ) (codes : List ℕ) → Counted d codes → joined_cuts m d codes ≡ false → Few d → Few (d * 2)
   unfolding cuts
   uncut_few d codes c e few p l =
-      Lists.split (ltb p d)
+      ListsLaws.split (ltb p d)
       (λ t.
       let u = ltb-true p d t in
       let all : suc p - d ≡ 0 = omega arith in
@@ -275,7 +277,7 @@ module _ (m : ℕ) (asks : ℕ → Bool) (ws : List ℕ) (some : 1 ≤ m) where
       let far : suc p - d - d ≡ suc p - d * 2 = omega arith in
       let left = rw (here, far) at (c.each (p - d) (omega arith)) in
       let low = rw (here, far) at (few (p - d) (omega arith)) in
-      let whole = Lists.any_not _ d (length codes - d) (sym (joined_cuts_any m d codes) ∙ e) p u (omega (arith, c.long)) in
+      let whole = ListsLaws.any_not _ d (length codes - d) (sym (joined_cuts_any m d codes) ∙ e) p u (omega (arith, c.long)) in
       omega (arith, ltb-false _ _ whole, left, low, c.each p l, few p l))
 
   -- where no distance is left the last window is all
@@ -285,7 +287,7 @@ module _ (m : ℕ) (asks : ℕ → Bool) (ws : List ℕ) (some : 1 ≤ m) where
       let all = ap (count asks) (take_all n ws (omega arith)) in
       rw (from_none n k (n - k) over, levels_cut_none m codes)
       (sym (le-ltb m (count asks ws)
-      (Lists.split (ltb 0 n)
+      (ListsLaws.split (ltb 0 n)
       (λ t.
       let l = ltb-true 0 n t in
       let last : suc (n - 1) ≡ n = omega arith in
@@ -298,10 +300,10 @@ module _ (m : ℕ) (asks : ℕ → Bool) (ws : List ℕ) (some : 1 ≤ m) where
       → levels_cut m (from (length ws) k) codes ≡ ltb m (count asks ws)
   levels_more zero k codes l w few = all_joined k codes (omega (arith, pow_more k)) few
   levels_more (suc c) k codes l w few =
-      Lists.split (ltb (2 ^ k) (length ws))
+      ListsLaws.split (ltb (2 ^ k) (length ws))
       (λ t.
       rw (from_next (length ws) k (ltb-true (2 ^ k) (length ws) t), levels_cut_next m (2 ^ k) (from (length ws) (suc k)) codes)
-      (Lists.split (joined_cuts m (2 ^ k) codes)
+      (ListsLaws.split (joined_cuts m (2 ^ k) codes)
       (λ q. rw q (sym (lt-ltb m (count asks ws) (cut_more (2 ^ k) codes w q))))
       (λ q.
       rw q
@@ -318,13 +320,13 @@ module _ (m : ℕ) (asks : ℕ → Bool) (ws : List ℕ) (some : 1 ≤ m) where
         each =
             λ p l.
             let here : suc p - 2 ^ 0 ≡ p = omega arith in
-            ap ones (Lists.get_d_mapped (input m asks) ws p l) ∙ ones_code _ ∙ rw here (omega (arith, upto_next p l));
+            ap ones (ListsLaws.get_d_mapped (input m asks) ws p l) ∙ ones_code _ ∙ rw here (omega (arith, upto_next p l));
       }
 
   begin_few : Few (2 ^ 0)
   begin_few p l =
       let here : suc p - 2 ^ 0 ≡ p = omega arith in
-      rw here (omega (arith, upto_next p l, Lists.bit_le (asks (get_or ws p 0))))
+      rw here (omega (arith, upto_next p l, ListsLaws.bit_le (asks (get_or ws p 0))))
 
   cut_exactly : levels_cut m (distances (length ws)) (map (input m asks) ws) ≡ ltb m (count asks ws)
   cut_exactly = rw (from_first (length ws)) (levels_more (length ws) 0 (map (input m asks) ws) (omega arith) begin_counted begin_few)
@@ -333,4 +335,4 @@ module _ (m : ℕ) (asks : ℕ → Bool) (ws : List ℕ) (some : 1 ≤ m) where
 pub network_more : (n m : ℕ) (h : Head) (asks : ℕ → Bool) → start h ≤ n → 1 ≤ m → network_cuts n m h asks ≡ ltb m (count asks (order n h))
 network_more n m h asks station some =
     network_cuts_levels n m h asks
-    ∙ rw (inputs_order n m h asks) (rw (RoundRobin.order_length n h station) at (cut_exactly m asks (order n h) some))
+    ∙ rw (inputs_order n m h asks) (rw (RoundRobinLaws.order_length n h station) at (cut_exactly m asks (order n h) some))

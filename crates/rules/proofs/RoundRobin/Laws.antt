@@ -7,29 +7,29 @@ use Rattle.std.proofs.Math.ListN.{get_or-eq_default}
 use Rattle.rules.specs.Head.{Head}
 use Rattle.std.specs.Prelude.{None, Some, unwrap_or}
 use Rattle.rules.specs.Lists.{bit, range, filter, count, member, before}
-use Rattle.rules.specs.Lists.Laws as Lists
+use Rattle.rules.specs.Lists.Laws as ListsLaws
 use Rattle.rules.specs.RoundRobin.{start, order, granted, grants, after, next}
 pub use Rattle.rules.specs.RoundRobin.Laws.{start_none, start_at, order_runs, after_last, after_head, order_count, order_turned, granted_inside, granted_only, granted_length, granted_cut, grants_length, grants_member, grants_marks, granted_once, next_after, after_one, after_stays, after_none}
 
 -- a station stands in the order once
 pub order_once : (n : ℕ) (h : Head) (w : ℕ) → start h ≤ n → w < n → count (eqb w) (order n h) ≡ 1
-order_once n h w l k = order_count n h (eqb w) l ∙ Lists.range_once w 0 n (omega arith) (omega arith)
+order_once n h w l k = order_count n h (eqb w) l ∙ ListsLaws.range_once w 0 n (omega arith) (omega arith)
 
 -- so it stands there
 pub order_member : (n : ℕ) (h : Head) (w : ℕ) → start h ≤ n → w < n → member w (order n h) ≡ true
-order_member n h w l k = Lists.counted_member w (order n h) (omega (arith, order_once n h w l k))
+order_member n h w l k = ListsLaws.counted_member w (order n h) (omega (arith, order_once n h w l k))
 
 -- nobody else does
 pub order_outside : (n : ℕ) (h : Head) (w : ℕ) → start h ≤ n → n ≤ w → count (eqb w) (order n h) ≡ 0
-order_outside n h w l k = order_count n h (eqb w) l ∙ Lists.uncounted w (range 0 n) (Lists.above_range w 0 n (omega arith))
+order_outside n h w l k = order_count n h (eqb w) l ∙ ListsLaws.uncounted w (range 0 n) (ListsLaws.above_range w 0 n (omega arith))
 
 -- the order is n stations long
 pub order_length : (n : ℕ) (h : Head) → start h ≤ n → length (order n h) ≡ n
 order_length n h l =
-    sym (Lists.count_all (order n h))
+    sym (ListsLaws.count_all (order n h))
     ∙ order_count n h (λ _. true) l
-    ∙ Lists.count_all (range 0 n)
-    ∙ Lists.length_range 0 n
+    ∙ ListsLaws.count_all (range 0 n)
+    ∙ ListsLaws.length_range 0 n
 
 -- the order that starts at w's successor is the order turned until w is last
 pub order_rotated : (n : ℕ) (h : Head) (front : List ℕ) (w : ℕ) (back : List ℕ) → start h < n → order n h ≡ front ++ w ∷ back
@@ -56,8 +56,8 @@ pub before_high : (n : ℕ) (h : Head) (w : ℕ) → start h ≤ w → w < n →
 before_high n h w l k =
     let s = start h in
     ap (before w) (order_runs n h)
-    ∙ Lists.before_left w (range s (n - s)) (range 0 s) (Lists.member_range w s (n - s) l (omega arith))
-    ∙ Lists.before_range w s (n - s) l (omega arith)
+    ∙ ListsLaws.before_left w (range s (n - s)) (range 0 s) (ListsLaws.member_range w s (n - s) l (omega arith))
+    ∙ ListsLaws.before_range w s (n - s) l (omega arith)
 
 -- before a station below the first stand those from the first to the end, and those from 0 up to it
 pub before_low : (n : ℕ) (h : Head) (w : ℕ) → w < start h
@@ -66,35 +66,35 @@ before_low n h w l =
     let s = start h in
     let all : w - 0 ≡ w = omega arith in
     ap (before w) (order_runs n h)
-    ∙ Lists.before_right w (range s (n - s)) (range 0 s) (Lists.below_range w s (n - s) l)
-    ∙ rw (Lists.before_range w 0 s (omega arith) (omega arith), all)
+    ∙ ListsLaws.before_right w (range s (n - s)) (range 0 s) (ListsLaws.below_range w s (n - s) l)
+    ∙ rw (ListsLaws.before_range w 0 s (omega arith) (omega arith), all)
 
 -- before the station at position p stand the first p
 pub before_at : (n : ℕ) (h : Head) (p : ℕ) → start h ≤ n → p < n → before (get_or (order n h) p 0) (order n h) ≡ take p (order n h)
 before_at n h p l k =
     let w = get_or (order n h) p 0 in
     let fits : p < length (order n h) = omega (arith, order_length n h l) in
-    let here = Lists.count_at (order n h) p fits in
+    let here = ListsLaws.count_at (order n h) p fits in
     let inside : w < n =
-    Lists.split (ltb w n)
+    ListsLaws.split (ltb w n)
     (ltb-true w n)
     (λ f. absurd (omega (arith, order_outside n h w l (ltb-false w n f)))) in
-    Lists.before_at (order n h) p fits (order_once n h w l inside)
+    ListsLaws.before_at (order n h) p fits (order_once n h w l inside)
 
 -- how many stand before a station, which is its position in the order
 pub before_position : (n : ℕ) (h : Head) (w : ℕ) → w < n
     → length (before w (order n h)) ≡ cond (ltb w (start h)) (n - start h + w) (w - start h)
 before_position n h w k =
     let s = start h in
-    Lists.split (ltb w s)
+    ListsLaws.split (ltb w s)
     (λ t.
-    rw (t, before_low n h w (ltb-true w s t), length-append (range s (n - s)) (range 0 w), Lists.length_range s (n - s), Lists.length_range 0 w))
-    (λ f. rw (f, before_high n h w (ltb-false w s f) k, Lists.length_range s (w - s)))
+    rw (t, before_low n h w (ltb-true w s t), length-append (range s (n - s)) (range 0 w), ListsLaws.length_range s (n - s), ListsLaws.length_range 0 w))
+    (λ f. rw (f, before_high n h w (ltb-false w s f) k, ListsLaws.length_range s (w - s)))
 
 -- fewer ask before an asking station than in all
 pub before_count : (n : ℕ) (h : Head) (p : ℕ → Bool) (w : ℕ) → start h ≤ n → w < n → p w ≡ true
     → count p (before w (order n h)) < count p (order n h)
-before_count n h p w l k t = Lists.count_before p w (order n h) (order_member n h w l k) t
+before_count n h p w l k t = ListsLaws.count_before p w (order n h) (order_member n h w l k) t
 
 -- the stations before w are fewer than n
 pub before_length : (n : ℕ) (h : Head) (w : ℕ) → start h ≤ n → w < n → length (before w (order n h)) < n
@@ -102,8 +102,8 @@ before_length n h w l k =
     omega (
       arith,
       before_count n h (λ _. true) w l k refl,
-      Lists.count_all (before w (order n h)),
-      Lists.count_all (order n h),
+      ListsLaws.count_all (before w (order n h)),
+      ListsLaws.count_all (order n h),
       order_length n h l,
     )
 
@@ -116,21 +116,21 @@ granted_member n m h asks w l k = granted_inside n m h asks w (order_member n h 
 pub granted_outside : (n m : ℕ) (h : Head) (asks : ℕ → Bool) (w : ℕ) → start h ≤ n → n ≤ w → member w (granted n m h asks) ≡ false
 granted_outside n m h asks w l k =
     let out : member w (order n h) ≡ false =
-    Lists.split (member w (order n h))
-    (λ t. absurd (omega (arith, ap bit t, Lists.member_count w (order n h), order_outside n h w l k)))
+    ListsLaws.split (member w (order n h))
+    (λ t. absurd (omega (arith, ap bit t, ListsLaws.member_count w (order n h), order_outside n h w l k)))
     (λ f. f) in
     granted_only n m h asks w out
 
 -- nobody is granted if nobody asks
 pub granted_none : (n m : ℕ) (h : Head) (asks : ℕ → Bool) → count asks (order n h) ≡ 0 → granted n m h asks ≡ []
-granted_none n m h asks e = Lists.empty _ (omega (arith, granted_length n m h asks))
+granted_none n m h asks e = ListsLaws.empty _ (omega (arith, granted_length n m h asks))
 
 -- an asking station that makes up the number of the granted is the last of them: the others are those that ask before it
 pub granted_upto : (n m : ℕ) (h : Head) (asks : ℕ → Bool) (w : ℕ) → start h ≤ n → w < n → asks w ≡ true
     → suc (count asks (before w (order n h))) ≡ length (granted n m h asks)
     → granted n m h asks ≡ filter asks (before w (order n h)) ++ (w ∷ [])
 granted_upto n m h asks w l k t e =
-    let r = Lists.before_split w (order n h) (order_member n h w l k) in
+    let r = ListsLaws.before_split w (order n h) (order_member n h w l k) in
     granted_cut n m h asks (before w (order n h)) w r.0 r.1 t e
 
 -- with one pick the first that asks is granted
@@ -139,15 +139,15 @@ pub granted_one : (n : ℕ) (h : Head) (asks : ℕ → Bool) (w : ℕ) → start
 granted_one n h asks w l k t e =
     let one : suc (count asks (before w (order n h))) ≡ length (granted n 1 h asks) =
     omega (arith, granted_length n 1 h asks, before_count n h asks w l k t) in
-    let none : filter asks (before w (order n h)) ≡ [] = Lists.empty _ (Lists.length_filter asks (before w (order n h)) ∙ e) in
+    let none : filter asks (before w (order n h)) ≡ [] = ListsLaws.empty _ (ListsLaws.length_filter asks (before w (order n h)) ∙ e) in
     granted_upto n 1 h asks w l k t one ∙ rw none
 
 -- a byte of the grant buffer is 0 or 1
 pub grants_bit : (n m : ℕ) (h : Head) (asks : ℕ → Bool) (i : ℕ) → get_or (grants n m h asks) i 0 ≤ 1
 grants_bit n m h asks i =
     let long = grants_length n m h asks in
-    Lists.split (ltb i n)
-    (λ t. rw (grants_member n m h asks i (ltb-true i n t)) (Lists.bit_le (member i (granted n m h asks))))
+    ListsLaws.split (ltb i n)
+    (λ t. rw (grants_member n m h asks i (ltb-true i n t)) (ListsLaws.bit_le (member i (granted n m h asks))))
     (λ f. omega (arith, get_or-eq_default (grants n m h asks) 0 {n = i} (omega (arith, long, ltb-false i n f))))
 
 -- so as many bytes of the grant buffer are 1 as stations are granted
@@ -155,9 +155,9 @@ pub grants_count : (n m : ℕ) (h : Head) (asks : ℕ → Bool) → start h ≤ 
     → count (λ b. eqb b 1) (grants n m h asks) ≡ length (granted n m h asks)
 grants_count n m h asks l =
     rw (grants_marks n m h asks)
-    (Lists.marks_count (granted n m h asks)
+    (ListsLaws.marks_count (granted n m h asks)
     (λ w.
-    Lists.split (ltb w n)
+    ListsLaws.split (ltb w n)
     (λ t. omega (arith, granted_once n m h asks w, order_once n h w l (ltb-true w n t)))
     (λ f. omega (arith, granted_once n m h asks w, order_outside n h w l (ltb-false w n f))))
     n
@@ -183,7 +183,7 @@ pub record Cut (n m : ℕ) (h : Head) (asks : ℕ → Bool) : Type 0 where
 pub cut : (n m : ℕ) (h : Head) (asks : ℕ → Bool) → start h < n → 0 < length (granted n m h asks) → Cut n m h asks
 cut n m h asks l some =
     let size = granted_length n m h asks in
-    let r = Lists.passing asks (order n h) (length (granted n m h asks) - 1) (omega arith) in
+    let r = ListsLaws.passing asks (order n h) (length (granted n m h asks) - 1) (omega arith) in
     let is : granted n m h asks ≡ filter asks r.front ++ (r.here ∷ []) =
     granted_cut n m h asks r.front r.here r.back r.is r.passes (omega (arith, r.earlier)) in
     let to : next n m h asks ≡ Some ((r.here + 1) % n) = next_last n m h asks (filter asks r.front) r.here is in

@@ -9,7 +9,7 @@ use lib.Bits.{bit_and, bit_or, and_mask, or_add_and, or_comm}
 use lib.Dec.{leb, ltb}
 use lib.Pow.{pow_mono, pow_pos}
 use borrow.Author.Tests.{leb-true, leb-false, ltb-true, ltb-false, lt-ltb, le-ltb}
-use Rattle.rules.specs.Lists.Laws as Lists
+use Rattle.rules.specs.Lists.Laws as ListsLaws
 use Rattle.rules.specs.Thermometer.{code}
 use Rattle.rules.proofs.Thermometer.Laws.{code_below}
 
@@ -24,7 +24,7 @@ larger a b l = omega (arith, or_add_and (code a) (code b), shared a b l)
 
 over : (a b : ℕ) → bit_or (code a) (code b) ≡ code (max a b)
 over a b =
-    Lists.split (leb a b)
+    ListsLaws.split (leb a b)
     (λ t. let l = leb-true a b t in larger a b l ∙ ap code (omega arith))
     (λ f. let l = leb-false a b f in rw or_comm (larger b a (omega arith) ∙ ap code (omega arith)))
 
@@ -51,11 +51,11 @@ reach_more {m} {cut = cut} sum r e =
   where
     either : ltb m (max r.largest sum) ≡ (ltb m r.largest || ltb m sum)
     either =
-        Lists.split (ltb m r.largest)
+        ListsLaws.split (ltb m r.largest)
         (λ t. rw t (lt-ltb m _ (omega (arith, ltb-true m r.largest t))))
         (λ f.
         rw f
-        (Lists.both_ways _ _
+        (ListsLaws.both_ways _ _
         (λ q. lt-ltb m sum (omega (arith, ltb-true m _ q, ltb-false m r.largest f)))
         (λ q. lt-ltb m _ (omega (arith, ltb-true m sum q)))))
 
@@ -66,6 +66,6 @@ reach_passes {m} r e = rw (e, r.is) (code_below m r.largest ∙ r.passes)
 -- a count that goes on from t, cut off at m: more than m have been counted exactly if they had before or the adder cuts something off
 pub counts_on : (m t k : ℕ) → (ltb m t || ltb m (min m t + k)) ≡ ltb m (t + k)
 counts_on m t k =
-    Lists.split (ltb m t)
+    ListsLaws.split (ltb m t)
     (λ p. rw p (sym (lt-ltb m (t + k) (omega (arith, ltb-true m t p)))))
     (λ p. let whole : min m t ≡ t = omega (arith, ltb-false m t p) in rw (p, whole))

@@ -6,10 +6,10 @@ use Rattle.std.specs.Int.Count.{ones, ones-ones}
 use Rattle.std.proofs.Math.Pow.{pow-lt}
 use Rattle.rules.specs.Head.{Head}
 use Rattle.rules.specs.Lists.{bit, count, before}
-use Rattle.rules.specs.Lists.Laws as Lists
+use Rattle.rules.specs.Lists.Laws as ListsLaws
 use Rattle.rules.specs.RoundRobin.{start, order}
-use Rattle.rules.specs.RoundRobin as RoundRobin
-use Rattle.rules.proofs.RoundRobin.Laws as Laws
+use Rattle.rules.specs.RoundRobin as RoundRobinRule
+use Rattle.rules.proofs.RoundRobin.Laws as RoundRobinLaws
 use Rattle.rules.specs.Thermometer.{code, is_code, add, saturated, grants}
 
 -- a code's ones are its count
@@ -43,12 +43,12 @@ zero_is_code m = le-leb 0 m (omega arith)
 -- a code for m is the code of its own count
 pub code_own : (m byte : ℕ) → is_code m byte ≡ true → byte ≡ code (ones byte)
 unfolding is_code
-code_own m byte t = eqb-true byte (code (ones byte)) (Lists.both (eqb byte (code (ones byte))) (leb (ones byte) m) t).0
+code_own m byte t = eqb-true byte (code (ones byte)) (ListsLaws.both (eqb byte (code (ones byte))) (leb (ones byte) m) t).0
 
 -- and its count is at most m
 pub code_few : (m byte : ℕ) → is_code m byte ≡ true → ones byte ≤ m
 unfolding is_code
-code_few m byte t = leb-true (ones byte) m (Lists.both (eqb byte (code (ones byte))) (leb (ones byte) m) t).1
+code_few m byte t = leb-true (ones byte) m (ListsLaws.both (eqb byte (code (ones byte))) (leb (ones byte) m) t).1
 
 -- every code of a count up to m is one
 pub is_code_lem : (m c : ℕ) → c ≤ m → is_code m (code c) ≡ true
@@ -101,25 +101,25 @@ add_input m a (suc (suc r)) u = absurd (omega arith)
 pub code_below : (a b : ℕ) → ltb (code a) (code b) ≡ ltb a b
 unfolding code
 code_below a b =
-    Lists.split (ltb a b)
+    ListsLaws.split (ltb a b)
     (λ t. rw t (lt-ltb (2 ^ a - 1) (2 ^ b - 1) (omega (arith, pow-lt (ltb-true a b t), pow_pos a))))
     (λ f. rw f (le-ltb (2 ^ a - 1) (2 ^ b - 1) (omega (arith, pow_mono (ltb-false a b f)))))
 
 -- a saturated count is below m exactly if the count is
 below : (m c : ℕ) → ltb (min m c) m ≡ ltb c m
-below m c = rw (add-zero (min m c), add-zero c) at (Lists.cut_below m c 0)
+below m c = rw (add-zero (min m c), add-zero c) at (ListsLaws.cut_below m c 0)
 
 -- the saturated counts grant those whom the round-robin rule grants
-pub grants_round_robin : (n m : ℕ) (h : Head) (asks : ℕ → Bool) → start h ≤ n → grants n m h asks ≡ RoundRobin.grants n m h asks
+pub grants_round_robin : (n m : ℕ) (h : Head) (asks : ℕ → Bool) → start h ≤ n → grants n m h asks ≡ RoundRobinRule.grants n m h asks
 unfolding grants saturated
 grants_round_robin n m h asks l =
-    ext_get_or 0 (grants n m h asks) (RoundRobin.grants n m h asks) (size ∙ sym (Laws.grants_length n m h asks)) (λ w k. at w (rw size at k))
+    ext_get_or 0 (grants n m h asks) (RoundRobinRule.grants n m h asks) (size ∙ sym (RoundRobinLaws.grants_length n m h asks)) (λ w k. at w (rw size at k))
   where
     size : length (grants n m h asks) ≡ n
-    size = Lists.length_table _ 0 n
+    size = ListsLaws.length_table _ 0 n
 
-    at : (w : ℕ) → w < n → get_or (grants n m h asks) w 0 ≡ get_or (RoundRobin.grants n m h asks) w 0
+    at : (w : ℕ) → w < n → get_or (grants n m h asks) w 0 ≡ get_or (RoundRobinRule.grants n m h asks) w 0
     at w k =
-        Lists.get_d_table _ 0 n w k
-        ∙ rw (zero-add, Laws.grants_member n m h asks w k, Laws.granted_member n m h asks w l k)
+        ListsLaws.get_d_table _ 0 n w k
+        ∙ rw (zero-add, RoundRobinLaws.grants_member n m h asks w k, RoundRobinLaws.granted_member n m h asks w l k)
         (ap (λ (b : Bool). bit (asks w && b)) (below m (count asks (before w (order n h)))))

@@ -13,9 +13,9 @@ use borrow.Author.Tests.{ltb-true, ltb-false}
 use Rattle.rules.specs.Head.{Head}
 use Rattle.std.specs.Prelude.{Some}
 use Rattle.rules.specs.Lists.{bit, range, filter, count, before}
-use Rattle.rules.specs.Lists.Laws as Lists
+use Rattle.rules.specs.Lists.Laws as ListsLaws
 use Rattle.rules.specs.RoundRobin.{start, order, granted, next}
-use Rattle.rules.proofs.RoundRobin.Laws as RoundRobin
+use Rattle.rules.proofs.RoundRobin.Laws as RoundRobinLaws
 use Rattle.rules.specs.Thermometer.{code, is_code, saturated, input, inputs, running, running_codes}
 use Rattle.rules.proofs.Thermometer.Laws.{ones_code, code_own, code_few, is_code_lem, add_codes, add_is_code}
 pub use Rattle.rules.specs.Thermometer.Running.{running_first, running_next, running_behind, running_length, running_prefix, running_carried, codes_inputs, inputs_order}
@@ -43,9 +43,9 @@ pub running_run : (m : ℕ) (asks : ℕ → Bool) (c from to w : ℕ) → is_cod
 running_run m asks c from to w t l u =
     let parts : to - from ≡ (w - from) + (to - w) = omega arith in
     let upto : take (w - from) (range from (to - from)) ≡ range from (w - from) =
-    rw (parts, Lists.range_append from (w - from) (to - w)) (take_at (range from (w - from)) _ (w - from) (Lists.length_range from (w - from))) in
+    rw (parts, ListsLaws.range_append from (w - from) (to - w)) (take_at (range from (w - from)) _ (w - from) (ListsLaws.length_range from (w - from))) in
     ap (λ (a : ℕ). get_or (running m a (map (input m asks) (range from (to - from)))) (w - from) 0) (code_own m c t)
-    ∙ running_count m asks (ones c) (range from (to - from)) (w - from) (code_few m c t) (omega (arith, Lists.length_range from (to - from)))
+    ∙ running_count m asks (ones c) (range from (to - from)) (w - from) (code_few m c t) (omega (arith, ListsLaws.length_range from (to - from)))
     ∙ rw upto
 
 -- a cycle's inputs are those of two runs of stations: from the first to the end, and from 0 up to the first
@@ -53,14 +53,14 @@ pub inputs_runs : (n m : ℕ) (h : Head) (asks : ℕ → Bool)
     → inputs n m h asks ≡ map (input m asks) (range (start h) (n - start h)) ++ map (input m asks) (range 0 (start h))
 inputs_runs n m h asks =
     inputs_order n m h asks
-    ∙ ap (map (input m asks)) (RoundRobin.order_runs n h) ∙ map-append (input m asks) (range (start h) (n - start h)) (range 0 (start h))
+    ∙ ap (map (input m asks)) (RoundRobinLaws.order_runs n h) ∙ map-append (input m asks) (range (start h) (n - start h)) (range 0 (start h))
 
 -- and are codes
 pub inputs_codes : (n m : ℕ) (h : Head) (asks : ℕ → Bool) (p : ℕ) → p < length (inputs n m h asks) → is_code m (get_or (inputs n m h asks) p 0) ≡ true
 inputs_codes n m h asks p l =
     let w = get_or (order n h) p 0 in
     let long : p < length (map (input m asks) (order n h)) = rw (inputs_order n m h asks) at l in
-    rw (inputs_order n m h asks, Lists.get_d_mapped (input m asks) (order n h) p (omega (arith, long, length-map (order n h) (input m asks))))
+    rw (inputs_order n m h asks, ListsLaws.get_d_mapped (input m asks) (order n h) p (omega (arith, long, length-map (order n h) (input m asks))))
     (is_code_lem m (min m (bit (asks w))) (omega arith))
 
 -- the codes of a cycle with one position for each station
@@ -69,7 +69,7 @@ module _ (n m : ℕ) (h : Head) (asks : ℕ → Bool) (station : start h ≤ n) 
   cs = running_codes n m h asks
 
   pub inputs_length : length (inputs n m h asks) ≡ n
-  inputs_length = ap length (inputs_order n m h asks) ∙ length-map (order n h) _ ∙ RoundRobin.order_length n h station
+  inputs_length = ap length (inputs_order n m h asks) ∙ length-map (order n h) _ ∙ RoundRobinLaws.order_length n h station
 
   -- N + 1 of them
   pub codes_length : length cs ≡ suc n
@@ -81,21 +81,21 @@ module _ (n m : ℕ) (h : Head) (asks : ℕ → Bool) (station : start h ≤ n) 
   codes_at p l =
       ap (λ (l : List ℕ). get_or l p 0) (codes_inputs n m h asks)
       ∙ ap (λ (l : List ℕ). get_or (running m 0 l) p 0) (inputs_order n m h asks)
-      ∙ running_count m asks 0 (order n h) p (omega arith) (omega (arith, RoundRobin.order_length n h station))
+      ∙ running_count m asks 0 (order n h) p (omega arith) (omega (arith, RoundRobinLaws.order_length n h station))
       ∙ rw zero-add
 
   -- N3's "Before each station it is that station's serial count"
   pub code_before : (w : ℕ) → w < n → get_or cs (length (before w (order n h))) 0 ≡ code (saturated n m h asks w)
   unfolding saturated
   code_before w l =
-      codes_at (length (before w (order n h))) (omega (arith, RoundRobin.before_length n h w station l))
-      ∙ rw (← Lists.before_take w (order n h))
+      codes_at (length (before w (order n h))) (omega (arith, RoundRobinLaws.before_length n h w station l))
+      ∙ rw (← ListsLaws.before_take w (order n h))
 
   -- past the last it is the code of how many are granted
   pub code_past : get_or cs n 0 ≡ code (length (granted n m h asks))
   code_past =
       codes_at n (omega arith)
-      ∙ rw (take_all n (order n h) (omega (arith, RoundRobin.order_length n h station)), RoundRobin.granted_length n m h asks)
+      ∙ rw (take_all n (order n h) (omega (arith, RoundRobinLaws.order_length n h station)), RoundRobinLaws.granted_length n m h asks)
 
   -- N3's "past the last, the number of its ones is the cycle's count of grants"
   pub ones_past : ones (get_or cs n 0) ≡ length (granted n m h asks)
@@ -106,7 +106,7 @@ module _ (n m : ℕ) (h : Head) (asks : ℕ → Bool) (station : start h ≤ n) 
   unfolding saturated
   codes_serial =
       ext_get_or 0 cs (serials ++ (total ∷ [])) (codes_length ∙ sym long)
-      (λ p l. Lists.split (ltb p n) (λ t. at p (ltb-true p n t)) (λ f. past p (omega (arith, ltb-false p n f, codes_length))))
+      (λ p l. ListsLaws.split (ltb p n) (λ t. at p (ltb-true p n t)) (λ f. past p (omega (arith, ltb-false p n f, codes_length))))
     where
       serials : List ℕ
       serials = map (λ w. code (saturated n m h asks w)) (order n h)
@@ -115,7 +115,7 @@ module _ (n m : ℕ) (h : Head) (asks : ℕ → Bool) (station : start h ≤ n) 
       total = code (length (granted n m h asks))
 
       many : length serials ≡ n
-      many = length-map (order n h) _ ∙ RoundRobin.order_length n h station
+      many = length-map (order n h) _ ∙ RoundRobinLaws.order_length n h station
 
       long : length (serials ++ (total ∷ [])) ≡ suc n
       long = length-append serials (total ∷ []) ∙ rw (many, add-one)
@@ -123,8 +123,8 @@ module _ (n m : ℕ) (h : Head) (asks : ℕ → Bool) (station : start h ≤ n) 
       at : (p : ℕ) → p < n → get_or cs p 0 ≡ get_or (serials ++ (total ∷ [])) p 0
       at p l =
           codes_at p (omega arith)
-          ∙ rw (← RoundRobin.before_at n h p station l)
-          (sym (get_or-append serials (total ∷ []) 0 p (omega (arith, many)) ∙ Lists.get_d_mapped _ (order n h) p (omega (arith, RoundRobin.order_length n h station))))
+          ∙ rw (← RoundRobinLaws.before_at n h p station l)
+          (sym (get_or-append serials (total ∷ []) 0 p (omega (arith, many)) ∙ ListsLaws.get_d_mapped _ (order n h) p (omega (arith, RoundRobinLaws.order_length n h station))))
 
       past : (p : ℕ) → p ≡ n → get_or cs p 0 ≡ get_or (serials ++ (total ∷ [])) p 0
       past p e =
@@ -136,12 +136,12 @@ module _ (n m : ℕ) (h : Head) (asks : ℕ → Bool) (station : start h ≤ n) 
       (get_or cs p 0 ≡ get_or cs n 0 → ⊥) → get_or cs (suc p) 0 ≡ get_or cs n 0 → next n m h asks ≡ Some ((w + 1) % n)
   code_last w l less same =
       let p = length (before w (order n h)) in
-      let inside = RoundRobin.before_length n h w station l in
-      let split = Lists.before_split w (order n h) (RoundRobin.order_member n h w station l) in
+      let inside = RoundRobinLaws.before_length n h w station l in
+      let split = ListsLaws.before_split w (order n h) (RoundRobinLaws.order_member n h w station l) in
       let upto : take (suc p) (order n h) ≡ before w (order n h) ++ (w ∷ []) =
       rw (← add-one p) (ap (take (p + 1)) split.1 ∙ take-append-add (before w (order n h)) (w ∷ split.0) 1) in
       let t = count asks (before w (order n h)) in
-      let few : get_or cs p 0 ≡ code (min m t) = codes_at p (omega arith) ∙ rw (← Lists.before_take w (order n h)) in
+      let few : get_or cs p 0 ≡ code (min m t) = codes_at p (omega arith) ∙ rw (← ListsLaws.before_take w (order n h)) in
       let reached : min m (t + bit (asks w)) ≡ length (granted n m h asks) =
       omega (
         arith,
@@ -149,11 +149,11 @@ module _ (n m : ℕ) (h : Head) (asks : ℕ → Bool) (station : start h ≤ n) 
         ones_code (min m (count asks (take (suc p) (order n h)))),
         ones_code (length (granted n m h asks)),
         ap (count asks) upto,
-        Lists.count_append asks (before w (order n h)) (w ∷ []),
+        ListsLaws.count_append asks (before w (order n h)) (w ∷ []),
       ) in
       let other : min m t ≡ length (granted n m h asks) → ⊥ = λ e. less (few ∙ ap code e ∙ sym code_past) in
-      Lists.split (asks w)
+      ListsLaws.split (asks w)
       (λ a.
-      RoundRobin.next_last n m h asks (filter asks (before w (order n h))) w
-      (RoundRobin.granted_upto n m h asks w station l a (omega (arith, reached, ap bit a))))
+      RoundRobinLaws.next_last n m h asks (filter asks (before w (order n h))) w
+      (RoundRobinLaws.granted_upto n m h asks w station l a (omega (arith, reached, ap bit a))))
       (λ a. absurd (other (omega (arith, reached, ap bit a))))

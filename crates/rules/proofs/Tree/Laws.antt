@@ -11,7 +11,7 @@ use borrow.Author.Tests.{eqb-true, eqb-false, ltb-true, ltb-false, lt-ltb, le-lt
 use Rattle.rules.specs.Head.{Head}
 use Rattle.std.specs.Prelude.{None}
 use Rattle.rules.specs.Lists.{range, filter, member}
-use Rattle.rules.specs.Lists.Laws as Lists
+use Rattle.rules.specs.Lists.Laws as ListsLaws
 use Rattle.rules.specs.Tree.{value, s1, s0, head_at, leaf, join, joined, nodes, goes_right, child, descend, reached}
 
 -- a value's S1 is the one it was made of
@@ -56,8 +56,8 @@ right_pair l r a b =
     let right : k % 4 ≡ r = omega arith in
     sym
     (ap (member k) (sym right_pairs)
-    ∙ Lists.member_filter (λ i. goes_right (i / 4) (i % 4)) k (range 0 16)
-    ∙ rw (Lists.member_range k 0 16 (omega arith) (omega arith), left, right))
+    ∙ ListsLaws.member_filter (λ i. goes_right (i / 4) (i % 4)) k (range 0 16)
+    ∙ rw (ListsLaws.member_range k 0 16 (omega arith) (omega arith), left, right))
 
 -- byte 0 is 0
 joined_zero : (p : ℕ) (rest : List ℕ) → get_or (joined p rest) 0 0 ≡ 0
@@ -82,7 +82,7 @@ unfolding joined
 joined_node zero rest u l k = absurd (omega arith)
 joined_node (suc p) rest u l k =
     let v = join (get_or rest p 0) (get_or rest (suc p) 0) in
-    Lists.split (eqb u (suc p))
+    ListsLaws.split (eqb u (suc p))
     (λ t.
     let here : u ≡ suc p = eqb-true u (suc p) t in
     joined_rest p (v ∷ rest) u 0 (omega arith)
@@ -93,14 +93,19 @@ module _ (n : ℕ) (h : Head) (asks : ℕ → Bool) (some : 1 ≤ n) where
   -- the node buffer has two bytes for each station
   pub nodes_length_lem : length (nodes n h asks) ≡ 2 * n
   unfolding nodes
-  nodes_length_lem = omega (arith, joined_length (n - 1) (map (leaf h asks) (range 0 n)), Lists.length_table (leaf h asks) 0 n)
+  nodes_length_lem = omega (arith, joined_length (n - 1) (map (leaf h asks) (range 0 n)), ListsLaws.length_table (leaf h asks) 0 n)
+
+  -- byte 0 is 0
+  pub node_zero : get_or (nodes n h asks) 0 0 ≡ 0
+  unfolding nodes
+  node_zero = joined_zero (n - 1) (map (leaf h asks) (range 0 n))
 
   -- station i is node n + i
   pub node_leaf : (i : ℕ) → i < n → get_or (nodes n h asks) (n + i) 0 ≡ leaf h asks i
   unfolding nodes
   node_leaf i l =
       joined_rest (n - 1) (map (leaf h asks) (range 0 n)) (n + i) i (omega arith)
-      ∙ Lists.get_d_table (leaf h asks) 0 n i l
+      ∙ ListsLaws.get_d_table (leaf h asks) 0 n i l
       ∙ rw zero-add
 
   -- any other node joins its children
@@ -109,17 +114,13 @@ module _ (n : ℕ) (h : Head) (asks : ℕ → Bool) (some : 1 ≤ n) where
   unfolding nodes
   node_joined u l k = joined_node (n - 1) (map (leaf h asks) (range 0 n)) u l (omega arith)
 
-  node_zero : get_or (nodes n h asks) 0 0 ≡ 0
-  unfolding nodes
-  node_zero = joined_zero (n - 1) (map (leaf h asks) (range 0 n))
-
   -- each byte is the value of a node
   pub node_below : (u : ℕ) → u < 2 * n → get_or (nodes n h asks) u 0 < 4
   unfolding leaf join
   node_below u l =
-      Lists.split (ltb u n)
+      ListsLaws.split (ltb u n)
       (λ t.
-      Lists.split (eqb u 0)
+      ListsLaws.split (eqb u 0)
       (λ z. rw (eqb-true u 0 z) (omega (arith, node_zero)))
       (λ z.
       omega (
@@ -143,7 +144,7 @@ child_low t u = omega arith
 
 child_high : (t : List ℕ) (u : ℕ) → child t u ≤ 2 * u + 1
 unfolding child
-child_high t u = omega (arith, Lists.bit_le (goes_right (get_or t (2 * u) 0) (get_or t (2 * u + 1) 0)))
+child_high t u = omega (arith, ListsLaws.bit_le (goes_right (get_or t (2 * u) 0) (get_or t (2 * u + 1) 0)))
 
 -- the descent stops at a station's node
 pub descend_stops : (n : ℕ) (t : List ℕ) (k u : ℕ) → n ≤ u → descend n t k u ≡ u
@@ -191,7 +192,7 @@ module _ (n : ℕ) (t : List ℕ) where
   lands : (k u : ℕ) → n ≤ u + k → OnWay n t u → reached n t < n
   lands zero u l w = omega (arith, way_ends u (omega arith) w, w.high)
   lands (suc k) u l w =
-      Lists.split (ltb u n)
+      ListsLaws.split (ltb u n)
       (λ q. lands k (child t u) (omega (arith, w.low, child_low t u)) (way_goes_on u (ltb-true u n q) w))
       (λ q. omega (arith, way_ends u (ltb-false u n q) w, ltb-false u n q, w.high))
 

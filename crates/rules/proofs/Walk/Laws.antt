@@ -1,4 +1,6 @@
 -- A run of stations, step by step, and two runs as one walk round. All that is used of the round-robin rule are its laws.
+-- Promises `reached_none`, `begin`, `quiet`, `skip`, `grant`, `full`, `recounted`, `Walked`, `told`, `over` and `round`. The
+-- rest are steps of their proofs.
 -- Assumes nothing.
 use Rattle.std.specs.Prelude.{ℕ, suc, ◌+◌, ◌-◌, ◌%◌, ◌≤◌, ◌<◌, min, ◌≡◌, refl, Bool, true, false, cond, ◌&&◌, ◌||◌, List, eqb, ltb, length, get_or, set, replicate, Option, None, Some}
 use Rattle.std.proofs.Common.{sym, ap, ◌∙◌, zero-add, arith, length-set, get_or-set_same, get_or-set_other, ext_get_or, eqb-true, ltb-true, ltb-false, lt-ltb, le-ltb}
@@ -7,9 +9,9 @@ use Rattle.std.proofs.lemmas.List.{length-replicate, get_or-replicate}
 use Rattle.std.proofs.lemmas.Bool.{eqb-false}
 use Rattle.rules.specs.Head.{Head}
 use Rattle.rules.specs.Lists.{bit, range, filter, count, before}
-use Rattle.rules.specs.Lists.Laws as Lists
+use Rattle.rules.specs.Lists.Laws as ListsLaws
 use Rattle.rules.specs.RoundRobin.{start, order, granted, grants, next}
-use Rattle.rules.proofs.RoundRobin.Laws as RoundRobin
+use Rattle.rules.proofs.RoundRobin.Laws as RoundRobinLaws
 use Rattle.rules.specs.Walk.{reached, RanBy, Ran}
 
 -- when a run begins, nobody more has asked
@@ -41,7 +43,7 @@ module _ (m : ℕ) (asks : ℕ → Bool) (from c₀ : ℕ) (z₀ : Option ℕ) (
           counted = e;
           here =
               λ w a b.
-              Lists.split (ltb w i)
+              ListsLaws.split (ltb w i)
               (λ t. r.here w a (ltb-true w i t))
               (λ f. let past : i ≤ w = ltb-false w i f in rw (none w past b) (r.above w past));
           below = r.below;
@@ -54,7 +56,7 @@ module _ (m : ℕ) (asks : ℕ → Bool) (from c₀ : ℕ) (z₀ : Option ℕ) (
     -- past stations that do not ask
     pub quiet : (to : ℕ) → i ≤ to → ((w : ℕ) → i ≤ w → w < to → asks w ≡ false) → Ran m asks from to c₀ z₀ old c z new
     quiet to u none =
-        passed to u (omega (arith, r.counted, Lists.count_same asks from i to at u none)) (λ w a b. rw (none w a b))
+        passed to u (omega (arith, r.counted, ListsLaws.count_same asks from i to at u none)) (λ w a b. rw (none w a b))
 
     -- past one
     pub skip : asks i ≡ false → Ran m asks from (i + 1) c₀ z₀ old c z new
@@ -66,10 +68,10 @@ module _ (m : ℕ) (asks : ℕ → Bool) (from c₀ : ℕ) (z₀ : Option ℕ) (
     grant t free fits =
         let whole : c ≡ reached asks from i c₀ = omega (arith, r.counted) in
         record {
-          counted = omega (arith, Lists.count_next asks from i at, ap bit t);
+          counted = omega (arith, ListsLaws.count_next asks from i at, ap bit t);
           here =
               λ w a b.
-              Lists.split (eqb w i)
+              ListsLaws.split (eqb w i)
               (λ e.
               let same : w ≡ i = eqb-true w i e in
               let below : ltb (reached asks from i c₀) m ≡ true = lt-ltb _ m (omega arith) in
@@ -85,10 +87,10 @@ module _ (m : ℕ) (asks : ℕ → Bool) (from c₀ : ℕ) (z₀ : Option ℕ) (
     -- once the picks are used up, the rest of the run changes nothing
     pub full : (to : ℕ) → i ≤ to → c ≡ m → Ran m asks from to c₀ z₀ old c z new
     full to u e =
-        passed to u (omega (arith, r.counted, Lists.count_more asks from i to at u))
+        passed to u (omega (arith, r.counted, ListsLaws.count_more asks from i to at u))
         (λ w a b.
         let over : ltb (reached asks from w c₀) m ≡ false =
-        le-ltb (reached asks from w c₀) m (omega (arith, r.counted, Lists.count_more asks from i w at a)) in
+        le-ltb (reached asks from w c₀) m (omega (arith, r.counted, ListsLaws.count_more asks from i w at a)) in
         rw over (and-false (asks w)))
 
 -- a run by other counts that are the same up to m
@@ -101,7 +103,7 @@ recounted {m} {from} {to} {asks = asks} {a = a} {b = b} l same r =
       here =
           λ w k u.
           let alike : ltb (a w) m ≡ ltb (b w) m =
-          Lists.both_ways _ _
+          ListsLaws.both_ways _ _
           (λ t. lt-ltb (b w) m (omega (arith, ltb-true (a w) m t, same w k (omega arith))))
           (λ t. lt-ltb (a w) m (omega (arith, ltb-true (b w) m t, same w k (omega arith)))) in
           r.here w k u ∙ rw alike;
@@ -153,9 +155,9 @@ module _ (n m : ℕ) (h : Head) (asks : ℕ → Bool) (station : start h < n) (c
         two.counted,
         half_count,
         ap (λ (k : ℕ). count asks (range 0 k)) all,
-        RoundRobin.granted_length n m h asks,
-        ap (count asks) (RoundRobin.order_runs n h),
-        Lists.count_append asks (range s (n - s)) (range 0 s),
+        RoundRobinLaws.granted_length n m h asks,
+        ap (count asks) (RoundRobinLaws.order_runs n h),
+        ListsLaws.count_append asks (range s (n - s)) (range 0 s),
       )
 
   -- one of them passes m exactly if more than m ask
@@ -163,9 +165,9 @@ module _ (n m : ℕ) (h : Head) (asks : ℕ → Bool) (station : start h < n) (c
   over =
       let all : s - 0 ≡ s = omega arith in
       let parts : count asks (order n h) ≡ many + count asks (range 0 s) =
-      ap (count asks) (RoundRobin.order_runs n h) ∙ Lists.count_append asks (range s (n - s)) (range 0 s) in
+      ap (count asks) (RoundRobinLaws.order_runs n h) ∙ ListsLaws.count_append asks (range s (n - s)) (range 0 s) in
       rw (zero-add, all)
-      (Lists.split (ltb m many)
+      (ListsLaws.split (ltb m many)
       (λ t. rw t (sym (lt-ltb m _ (omega (arith, ltb-true m many t, parts)))))
       (λ f. let whole : c₁ ≡ many = omega (arith, half_count, ltb-false m many f) in rw (f, whole, parts)))
 
@@ -174,7 +176,7 @@ module _ (n m : ℕ) (h : Head) (asks : ℕ → Bool) (station : start h < n) (c
   high w l u =
       let was : get_or {A = ℕ} (replicate n 0) w 0 ≡ 0 = get_or-replicate n w 0 0 u in
       let so : ltb (reached asks s w 0) m ≡ ltb (count asks (before w (order n h))) m =
-      rw (RoundRobin.before_high n h w l u, zero-add) in
+      rw (RoundRobinLaws.before_high n h w l u, zero-add) in
       two.above w l ∙ one.here w l u ∙ cond_bit (asks w && ltb (reached asks s w 0) m) _ was ∙ rw so
 
   -- a station of the second run
@@ -183,19 +185,19 @@ module _ (n m : ℕ) (h : Head) (asks : ℕ → Bool) (station : start h < n) (c
       let was : get_or mid w 0 ≡ 0 = one.below w l ∙ get_or-replicate n w 0 0 (omega arith) in
       let all : w - 0 ≡ w = omega arith in
       let sum : many + count asks (range 0 w) ≡ count asks (before w (order n h)) =
-      sym (ap (count asks) (RoundRobin.before_low n h w l) ∙ Lists.count_append asks (range s (n - s)) (range 0 w)) in
+      sym (ap (count asks) (RoundRobinLaws.before_low n h w l) ∙ ListsLaws.count_append asks (range s (n - s)) (range 0 w)) in
       let so : ltb (reached asks 0 w c₁) m ≡ ltb (count asks (before w (order n h))) m =
-      rw (half_count, all, ← sum) (Lists.cut_below m many (count asks (range 0 w))) in
+      rw (half_count, all, ← sum) (ListsLaws.cut_below m many (count asks (range 0 w))) in
       two.here w (omega arith) l ∙ cond_bit (asks w && ltb (reached asks 0 w c₁) m) _ was ∙ rw so
 
   bytes : new ≡ grants n m h asks
   bytes =
       let long : length new ≡ n = two.long ∙ one.long ∙ length-replicate n 0 in
-      ext_get_or 0 new (grants n m h asks) (long ∙ sym (RoundRobin.grants_length n m h asks))
+      ext_get_or 0 new (grants n m h asks) (long ∙ sym (RoundRobinLaws.grants_length n m h asks))
       (λ w l.
       let u : w < n = omega arith in
-      Lists.split (ltb w s) (λ t. low w (ltb-true w s t)) (λ e. high w (ltb-false w s e) u)
-      ∙ sym (RoundRobin.grants_member n m h asks w u ∙ ap bit (RoundRobin.granted_member n m h asks w (omega arith) u)))
+      ListsLaws.split (ltb w s) (λ t. low w (ltb-true w s t)) (λ e. high w (ltb-false w s e) u)
+      ∙ sym (RoundRobinLaws.grants_member n m h asks w u ∙ ap bit (RoundRobinLaws.granted_member n m h asks w (omega arith) u)))
 
   -- the one granted last makes up the number of the granted
   record Last (w : ℕ) : Type 0 where
@@ -212,7 +214,7 @@ module _ (n m : ℕ) (h : Head) (asks : ℕ → Bool) (station : start h < n) (c
           is = two.none e ∙ l.1;
           in_range = l.3;
           wants = l.4;
-          ends = rw (RoundRobin.before_high n h l.0 l.2 l.3) (omega (arith, l.5, done_count));
+          ends = rw (RoundRobinLaws.before_high n h l.0 l.2 l.3) (omega (arith, l.5, done_count));
         },
       )
 
@@ -234,15 +236,15 @@ module _ (n m : ℕ) (h : Head) (asks : ℕ → Bool) (station : start h < n) (c
                 half_count,
                 two.counted,
                 ap (λ (k : ℕ). count asks (range 0 k)) all,
-                ap (count asks) (RoundRobin.before_low n h w l.3),
-                Lists.count_append asks (range s (n - s)) (range 0 w),
+                ap (count asks) (RoundRobinLaws.before_low n h w l.3),
+                ListsLaws.count_append asks (range s (n - s)) (range 0 w),
               );
         },
       )
 
   last_of : 0 < c → (w : ℕ) × Last w
   last_of some =
-      Lists.split (eqb c c₁)
+      ListsLaws.split (eqb c c₁)
       (λ e. last_of_first (eqb-true c c₁ e) some)
       (λ e. last_of_second (omega (arith, eqb-false c c₁ e, two.counted, half_count)))
 
@@ -262,7 +264,7 @@ module _ (n m : ℕ) (h : Head) (asks : ℕ → Bool) (station : start h < n) (c
               w,
               l.1.is,
               l.1.in_range,
-              RoundRobin.next_last n m h asks (filter asks (before w (order n h))) w
-                  (RoundRobin.granted_upto n m h asks w (omega (arith, l.1.in_range)) l.1.in_range l.1.wants l.1.ends),
+              RoundRobinLaws.next_last n m h asks (filter asks (before w (order n h))) w
+                  (RoundRobinLaws.granted_upto n m h asks w (omega (arith, l.1.in_range)) l.1.in_range l.1.wants l.1.ends),
             );
       }

@@ -8,7 +8,7 @@ use Rattle.std.proofs.Math.ListN.{length, get_or}
 use Rattle.rules.specs.Head.{Head}
 use Rattle.std.specs.List.{list_any}
 use Rattle.rules.specs.Lists.{range, filter}
-use Rattle.rules.specs.Lists.Laws as Lists
+use Rattle.rules.specs.Lists.Laws as ListsLaws
 use Rattle.rules.specs.Thermometer.{add, cuts, inputs}
 use Rattle.rules.specs.KoggeStone.{distances, joined, levels, network, joined_cuts, levels_cut, network_cuts, counts, count_before}
 use Rattle.rules.specs.Lists.{before}
@@ -17,18 +17,18 @@ use Rattle.rules.specs.RoundRobin.{order}
 -- as many codes after a joining
 pub joined_length : (m d : ℕ) (codes : List ℕ) → length (joined m d codes) ≡ length codes
 unfolding joined
-joined_length m d codes = Lists.length_table _ 0 (length codes)
+joined_length m d codes = ListsLaws.length_table _ 0 (length codes)
 
 -- a position nearer to the first than the distance
 pub joined_near : (m d : ℕ) (codes : List ℕ) (p : ℕ) → p < length codes → p < d → get_or (joined m d codes) p 0 ≡ get_or codes p 0
 unfolding joined
-joined_near m d codes p l near = Lists.get_d_table _ 0 (length codes) p l ∙ rw (zero-add, lt-ltb p d near)
+joined_near m d codes p l near = ListsLaws.get_d_table _ 0 (length codes) p l ∙ rw (zero-add, lt-ltb p d near)
 
 -- and every other
 pub joined_far : (m d : ℕ) (codes : List ℕ) (p : ℕ) → p < length codes → d ≤ p
     → get_or (joined m d codes) p 0 ≡ add m (get_or codes (p - d) 0) (get_or codes p 0)
 unfolding joined
-joined_far m d codes p l far = Lists.get_d_table _ 0 (length codes) p l ∙ rw (zero-add, le-ltb p d far)
+joined_far m d codes p l far = ListsLaws.get_d_table _ 0 (length codes) p l ∙ rw (zero-add, le-ltb p d far)
 
 -- the distances are those of the powers of two below the width
 pub distances_powers : (n : ℕ) → distances n ≡ filter (λ d. ltb d n) (map (λ k. 2 ^ k) (range 0 n))

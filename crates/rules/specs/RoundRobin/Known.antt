@@ -1,12 +1,13 @@
 -- 01, "Known turns": the twelve starred entries, as one list, and the claim that the rules give every one of them.
 -- Assumes nothing.
-use Rattle.std.specs.Prelude.{ℕ, Bool, ◌&&◌, List, [], ◌∷◌, ◌≡◌, refl, eqb}
+use Rattle.std.specs.Prelude.{ℕ, Bool, true, ◌&&◌, List, [], ◌∷◌, ◌≡◌, refl, eqb, length}
+use Rattle.std.specs.List.{list_all}
 use Rattle.rules.specs.Head.{Head}
 use Rattle.std.specs.Prelude.{None, Some}
-use Rattle.rules.specs.Lists.{count, member, same}
+use Rattle.rules.specs.Lists.{member, same}
 use Rattle.rules.specs.RoundRobin.{start, order, granted, after, next}
 use Rattle.rules.specs.Tree.{value, s1, s0, head_at, leaf, join, joined, nodes}
-use Rattle.rules.specs.Bus as Bus
+use Rattle.rules.specs.Bus as BusRule
 
 -- an entry. A turn: width, pick count, head; who asks; who is granted, in turn order; the next head. The bus: width, pick count,
 -- token, acknowledge byte; who asks; who is granted; the next token. The tree: width, head; who asks; the node buffer
@@ -38,11 +39,11 @@ right (turn n m h asking out to) =
     same (granted n m h (λ w. member w asking)) out && head_at (next n m h (λ w. member w asking)) to
 right (bus n m t byte asking out to) =
     eqb m 1
-    && same (Bus.granted n t (λ w. member w asking)) out
-    && eqb (Bus.next n t (Bus.acknowledged byte) (λ w. member w asking)) to
+    && same (BusRule.granted n t (λ w. member w asking)) out
+    && eqb (BusRule.next n t (BusRule.acknowledged byte) (λ w. member w asking)) to
 right (tree n h asking out) = same (nodes n h (λ w. member w asking)) out
 
--- they give all twelve
-pub known : count right starred ≡ 12
-unfolding starred right start order granted after next Bus.granted Bus.after Bus.next value s1 s0 head_at leaf join joined nodes
-known = refl
+-- they give every entry, and there are twelve
+pub known : (list_all right starred ≡ true) × (length starred ≡ 12)
+unfolding starred right start order granted after next BusRule.granted BusRule.after BusRule.next value s1 s0 head_at leaf join joined nodes
+known = (refl, refl)

@@ -1,9 +1,10 @@
 -- The tree's rule held against the round-robin rule on small widths, by computing every case.
 -- Assumes nothing.
-use Rattle.std.specs.Prelude.{ℕ, ◌/◌, ◌%◌, ◌^◌, Bool, List, ◌∷◌, map, ◌≡◌, refl, eqb}
+use Rattle.std.specs.Prelude.{ℕ, ◌/◌, ◌%◌, ◌^◌, Bool, true, List, ◌∷◌, map, ◌≡◌, refl, eqb, length}
+use Rattle.std.specs.List.{list_all}
 use Rattle.rules.specs.Head.{Head}
 use Rattle.std.specs.Prelude.{None, Some}
-use Rattle.rules.specs.Lists.{range, count, same}
+use Rattle.rules.specs.Lists.{range, same}
 use Rattle.rules.specs.RoundRobin.{start, order, granted}
 use Rattle.rules.specs.Tree.{value, s1, s0, head_at, leaf, join, joined, nodes, goes_right, child, descend, reached, chosen}
 
@@ -17,14 +18,14 @@ heads n = None ∷ map Some (range 0 n)
 
 -- from head h the tree grants whom the round-robin rule grants, whoever asks
 pub agrees : ℕ → Head → Bool
-agrees n h = eqb (count (λ x. same (chosen n (nodes n h (asking x))) (granted n 1 h (asking x))) (range 0 (2 ^ n))) (2 ^ n)
+agrees n h = list_all (λ x. same (chosen n (nodes n h (asking x))) (granted n 1 h (asking x))) (range 0 (2 ^ n))
 
 -- so it does with 2 stations, from none and both heads
-pub trees_of_two : count (agrees 2) (heads 2) ≡ 3
+pub trees_of_two : (list_all (agrees 2) (heads 2) ≡ true) × (length (heads 2) ≡ 3)
 unfolding asking heads agrees start order granted value s1 s0 head_at leaf join joined nodes goes_right child descend reached chosen
-trees_of_two = refl
+trees_of_two = (refl, refl)
 
 -- and with 4, from none and all four
-pub trees_of_four : count (agrees 4) (heads 4) ≡ 5
+pub trees_of_four : (list_all (agrees 4) (heads 4) ≡ true) × (length (heads 4) ≡ 5)
 unfolding asking heads agrees start order granted value s1 s0 head_at leaf join joined nodes goes_right child descend reached chosen
-trees_of_four = refl
+trees_of_four = (refl, refl)

@@ -6,7 +6,7 @@ use Rattle.std.proofs.Common.{is_some, sym, ap, arith, eq-eqb, ne_eqb, eqb-true}
 use Rattle.std.proofs.lemmas.Bool.{eqb-false}
 use Rattle.rules.specs.Head.{Head}
 use Rattle.std.specs.Prelude.{None, Some, Ok, Err}
-use Rattle.rules.specs.Lists.Laws as Lists
+use Rattle.rules.specs.Lists.Laws as ListsLaws
 use Rattle.rules.specs.RoundRobin.{start}
 use Rattle.rules.proofs.RoundRobin.Laws.{start_none, start_at}
 use Rattle.arbiter.specs.declared.State.{State}
@@ -86,7 +86,7 @@ pub asked : (bytes : List ℕ) → get_or bytes 0 0 < 256 → read_length (lengt
     → (Questions.bits (length bytes - 1) bytes then allowed (fields bytes))
     ≡ cond (eqb (length bytes) short_size) (short_questions bytes) (long_questions bytes)
 asked bytes byte z =
-    Lists.split (eqb (length bytes) short_size)
+    ListsLaws.split (eqb (length bytes) short_size)
     (λ t.
     let e = eqb-true (length bytes) short_size t in
     let last : length bytes - 1 ≡ 3 = omega arith in

@@ -1,4 +1,5 @@
 -- What is known of numbers as text.
+-- Promises `decimal_one`, `decimal_more`, `decimal_few` and `decimal_same`. The rest are steps of their proofs.
 -- Assumes nothing.
 use Rattle.std.specs.Prelude.{ℕ, zero, suc, ◌/◌, ◌%◌, ◌^◌, ◌≤◌, ◌<◌, ◌≡◌, [], ◌∷◌, ◌++◌, length}
 use Rattle.std.proofs.Common.{arith, length-append}

@@ -1,4 +1,6 @@
 -- The code that a walk carries is the running code of the cycle: at each station 01's saturated count of those that ask before it.
+-- Promises `code_first`, `code_next`, `code_coded`, `code_counts`, `hands_code`, `to_counts`, `to_codes`, `carried_high` and
+-- `carried_low`. The rest are steps of their proofs.
 -- Assumes nothing.
 use Rattle.std.specs.Prelude.{ℕ, suc, ◌+◌, ◌-◌, ◌≤◌, ◌<◌, min, ◌≡◌, Bool, true, ◌||◌, List, ◌++◌, map, ltb, length, get_or}
 use Rattle.std.proofs.Common.{sym, ap, ◌∙◌, append_assoc, arith}
@@ -6,14 +8,14 @@ use Rattle.std.proofs.lemmas.List.{map-append}
 use Rattle.std.specs.Int.Count.{ones}
 use Rattle.rules.specs.Head.{Head}
 use Rattle.rules.specs.Lists.{range}
-use Rattle.rules.specs.Lists.Laws as Lists
+use Rattle.rules.specs.Lists.Laws as ListsLaws
 use Rattle.rules.specs.RoundRobin.{start}
 use Rattle.rules.specs.Thermometer.{is_code, add, input, running, running_codes}
 use Rattle.rules.proofs.Thermometer.Laws.{ones_code, add_input}
 use Rattle.rules.proofs.Thermometer.Running.{running_first, running_next, running_prefix, running_carried, running_is_code, running_run, inputs_runs, codes_inputs}
 use Rattle.rules.specs.Walk as Walks
 use Rattle.rules.specs.Walk.{reached}
-use Rattle.rules.proofs.Walk.Laws as Walk
+use Rattle.rules.proofs.Walk.Laws as WalkLaws
 use Rattle.arbiter.specs.Decisions.{requested}
 use Rattle.thermometer.specs.declared.Walk.{Walk}
 use Rattle.thermometer.specs.Runs.{Ran, begun, asked, code_at}
@@ -21,11 +23,11 @@ use Rattle.thermometer.specs.Runs.{Ran, begun, asked, code_at}
 -- the requests of a run of stations
 module _ (m : ℕ) (requests : List ℕ) where
   asked_length : (from k : ℕ) → length (asked m requests from k) ≡ k
-  asked_length = Lists.length_table (input m (requested requests))
+  asked_length = ListsLaws.length_table (input m (requested requests))
 
   asked_append : (from j k : ℕ) → asked m requests from (j + k) ≡ asked m requests from j ++ asked m requests (from + j) k
   asked_append from j k =
-      ap (map (input m (requested requests))) (Lists.range_append from j k)
+      ap (map (input m (requested requests))) (ListsLaws.range_append from j k)
       ∙ map-append (input m (requested requests)) (range from j) (range (from + j) k)
 
 -- the running code of a run that starts from c
@@ -49,7 +51,7 @@ module _ (m : ℕ) (requests : List ℕ) (from to c : ℕ) where
   code_next i l u wire =
       let k = i - from in
       let here : from + k ≡ i = omega arith in
-      let request : get_or inputs k 0 ≡ input m asks i = Lists.get_d_table (input m asks) from (to - from) k (omega arith) ∙ ap (input m asks) here in
+      let request : get_or inputs k 0 ≡ input m asks i = ListsLaws.get_d_table (input m asks) from (to - from) k (omega arith) ∙ ap (input m asks) here in
       let before = get_or (running m c inputs) k 0 in
       let next : i + 1 - from ≡ suc k = omega arith in
       ap (λ (j : ℕ). get_or (running m c inputs) j 0) next
@@ -87,10 +89,10 @@ module _ (m : ℕ) (requests : List ℕ) (from to : ℕ) (walk now : Walk) (old 
   Over = now.more ≡ (walk.more || ltb m (reached (requested requests) from to (ones walk.code)))
 
   pub to_counts : Ran m requests from to walk old now new → ByCounts
-  to_counts r = Walk.recounted l same r.ran
+  to_counts r = WalkLaws.recounted l same r.ran
 
   pub to_codes : ByCounts → now.code ≡ code_at m requests from to walk.code to → Over → Ran m requests from to walk old now new
-  to_codes r e o = record { carried = e; ran = Walk.recounted l (λ w k u. sym (same w k u)) r; more = o }
+  to_codes r e o = record { carried = e; ran = WalkLaws.recounted l (λ w k u. sym (same w k u)) r; more = o }
 
 -- a walk from the first station, and a walk that goes on from 0: `half` is how far it has come at the last station, and `now` how
 -- far before station w. What it carries is the cycle's running code at the position of w, and past the last where no station is left

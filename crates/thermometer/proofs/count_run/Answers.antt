@@ -8,7 +8,7 @@ use lib.ListN.{get_or}
 use mathlib.Core.Bool.{◌||◌}
 use Rattle.rules.specs.Walk.{reached}
 use Rattle.rules.specs.Thermometer.{is_code, add}
-use Rattle.rules.specs.Lists.Laws as Lists
+use Rattle.rules.specs.Lists.Laws as ListsLaws
 use Rattle.rules.proofs.Thermometer.Laws.{full_ones, full_code, code_few, add_is_code, ones_bit}
 use Rattle.arbiter.specs.Decisions.{requested}
 use lib.Dec.{ltb}
@@ -16,11 +16,11 @@ use borrow.Author.Tests.{le-ltb}
 use Rattle.rules.proofs.Thermometer.Cuts.{Reach, reach_none, reach_more, reach_passes, counts_on}
 use lib.Count.{ones}
 use lib.Bits.{bit_or}
-use Rattle.rules.proofs.Walk.Laws as Walk
+use Rattle.rules.proofs.Walk.Laws as WalkLaws
 use Rattle.thermometer.proofs.Runs.Laws.{code_first, code_next, to_codes}
 use mir.Syntax.{fn₀}
 use Rattle.arbiter.specs.Trace.{trace, end, computes, calls, leaves, either, repeats}
-use Rattle.thermometer.proofs.Steps as Steps
+use Rattle.thermometer.proofs.Steps as WalkSteps
 use Rattle.thermometer.proofs.count_run.Code as code
 use Rattle.thermometer.proofs.count_run.Goals as goal
 use Rattle.thermometer.proofs.count_run.Goals.{else-sum-walk, then-sum-walk}
@@ -41,10 +41,10 @@ pub loop-i-init : goal.loop-i-init
 loop-i-init c =
     let a = c.args in (
       refl,
-      rw (Walk.reached_none (requested a.requests.now) a.from (ones a.walk.code), le-ltb a.picks (ones a.walk.code) (code_few _ _ c.requires.code_value)) (reach_none a.picks),
+      rw (WalkLaws.reached_none (requested a.requests.now) a.from (ones a.walk.code), le-ltb a.picks (ones a.walk.code) (code_few _ _ c.requires.code_value)) (reach_none a.picks),
       c.requires.code_value,
       sym (code_first a.picks a.requests.now a.from a.to _),
-      Walk.begin _ _ _ _ _ _ (code_few _ _ c.requires.code_value),
+      WalkLaws.begin _ _ _ _ _ _ (code_few _ _ c.requires.code_value),
     )
 
 pub loop-i-preserved : goal.loop-i-preserved
@@ -63,7 +63,7 @@ loop-i-preserved c =
     ∙ sym (code_next m a.requests.now a.from a.to a.walk.code l.i (omega arith) (omega arith) wire) in
     let stepped : is_code m c.step-sum.result.code ≡ true = rw sum (add_is_code m l.walk.code _) in
     let more : reached asks a.from (l.i + 1) (ones a.walk.code) ≡ reached asks a.from l.i (ones a.walk.code) + ones request =
-    omega (arith, Lists.count_next asks a.from l.i (omega arith), Lists.bit_byte request wire, ones_bit request wire) in
+    omega (arith, ListsLaws.count_next asks a.from l.i (omega arith), ListsLaws.bit_byte request wire, ones_bit request wire) in
     let on = rw (← l.invariant.4.counted, ← more) at (counts_on m (reached asks a.from l.i (ones a.walk.code)) (ones request)) in
     let reach : Reach m (ltb m (reached asks a.from (l.i + 1) (ones a.walk.code))) (bit_or l.reach c.step-sum.result.whole) =
     rw (← on) (reach_more (ones l.walk.code + ones request) l.invariant.1 (ap (λ s. s.whole) step)) in
@@ -73,7 +73,7 @@ loop-i-preserved c =
         reach,
         stepped,
         sum ∙ next,
-        rw (← sum) at (Steps.granted _ _ _ coded wire _ _ _ _ _ l.i (omega arith) _ _ l.invariant.4 refl (rw sum at w.if-sum-walk.true) (omega arith)),
+        rw (← sum) at (WalkSteps.granted _ _ _ coded wire _ _ _ _ _ l.i (omega arith) _ _ l.invariant.4 refl (rw sum at w.if-sum-walk.true) (omega arith)),
       )
       | else-sum-walk w ↦ let stays = rw sum at w.if-sum-walk.false in
           rw (w.grants-is, w.walk-is) (
@@ -81,7 +81,7 @@ loop-i-preserved c =
             reach,
             coded,
             sym stays ∙ next,
-            Steps.passed_over _ _ _ coded wire _ _ _ _ _ l.i (omega arith) _ _ l.invariant.4 refl stays,
+            WalkSteps.passed_over _ _ _ coded wire _ _ _ _ _ l.i (omega arith) _ _ l.invariant.4 refl stays,
           )
     ]
 

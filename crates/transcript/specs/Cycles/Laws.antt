@@ -1,15 +1,18 @@
 -- How long the lines of a run are, and what a cycle line leaves of the state.
+-- Promises `number_few`, `Printable`, `bus_formed`, `formed_long`, `cycle_called`, `cycle_refused`, `cycle_printable`,
+-- `cycle_width`, `cycle_place`, `served_long`, `refusal_short`, `run_short`, `opening_nowhere` and `opening_wide`. The rest are
+-- steps of their proofs.
 -- Assumes nothing.
 use Rattle.std.specs.Prelude.{ℕ, suc, ◌+◌, ◌*◌, ◌^◌, ◌≤◌, ◌<◌, ◌≡◌, refl, Bool, true, false, ◌&&◌, List, [], ◌∷◌, ◌++◌, map, eqb, ltb, leb, length, take, get_or, replicate, None, Some, Result, Ok, Err}
 use Rattle.std.proofs.Common.{sym, ap, ◌∙◌, arith, length-append, length-take, eqb-true, leb-true, leb-false}
 use Rattle.std.proofs.lemmas.List.{length-map, length-replicate}
 use Rattle.rules.specs.Head.{Head}
 use Rattle.rules.specs.Lists.{range, member}
-use Rattle.rules.specs.Lists.Laws as Lists
+use Rattle.rules.specs.Lists.Laws as ListsLaws
 use Rattle.rules.specs.RoundRobin.{start, next}
-use Rattle.rules.proofs.RoundRobin.Laws as Rule
-use Rattle.rules.specs.Bus as BusNext
-use Rattle.rules.proofs.Bus.Laws as BusRule
+use Rattle.rules.proofs.RoundRobin.Laws as RoundRobinLaws
+use Rattle.rules.specs.Bus as BusRule
+use Rattle.rules.proofs.Bus.Laws as BusLaws
 use Rattle.text.specs.Characters.{line_feed, space, decimal, bit, bits}
 use Rattle.text.specs.Characters.Laws.{decimal_few}
 use Rattle.arbiter.specs.declared.Answer.{Answer}
@@ -21,20 +24,20 @@ use Rattle.arbiter.specs.Places.{places, first}
 use Rattle.arbiter.specs.Places.Laws.{found}
 use Rattle.arbiter.specs.Questions as Questions
 use Rattle.arbiter.specs.Questions.{Verdict, passed, ◌then◌, refuse_unless, refuse_at_first}
-use Rattle.arbiter.specs.Questions.Laws as Questions-as-Laws
+use Rattle.arbiter.specs.Questions.Laws as QuestionsLaws
 use Rattle.arbiter.specs.Answers as Answers
-use Rattle.arbiter.specs.Answers.{Outcome, number_of, place_of, number, place, if_passed, writes}
+use Rattle.arbiter.specs.Answers.{Effect, number_of, place_of, number, place, if_passed, writes}
 use Rattle.arbiter.specs.Answers.Laws.{refusal_number}
-use Rattle.arbiter.specs.Cycle as RoundRobin
-use Rattle.tree.specs.Calls as Tree
-use Rattle.tree.specs.Calls.Laws as TreeLaws
-use Rattle.token_bus.specs.Calls as Bus
-use Rattle.token_bus.specs.Calls.Laws as BusLaws
+use Rattle.arbiter.specs.Cycle as RoundRobinCalls
+use Rattle.tree.specs.Calls as TreeCalls
+use Rattle.tree.specs.Calls.Laws as TreeCallsLaws
+use Rattle.token_bus.specs.Calls as BusCalls
+use Rattle.token_bus.specs.Calls.Laws as BusCallsLaws
 use Rattle.transcript.specs.declared.first_line.Kind.{Kind}
 use Rattle.engines.specs.declared.Engine.TheVariants.{Scan, Tree, Thermometer, KoggeStone}
 use Rattle.transcript.specs.declared.first_line.Kind.TheVariants.{RoundRobin, TokenBus}
 use Rattle.transcript.specs.Lines.Laws.{total_length}
-use Rattle.transcript.specs.Cycles.{opening, well_formed, wire, called, cycle, refused_word, refusal, granted, told, printed, run}
+use Rattle.transcript.specs.Cycles.{opening, well_formed, wire, called, cycle, refused_word, refusal_line, granted, told, printed, run}
 
 -- the number of a refusal has two digits at most
 pub number_few : (refusal : Refusal) → Refusals.number refusal < 100
@@ -88,17 +91,17 @@ module _ {most : ℕ} where
   length_small stated length refusal e = unless_small (eqb length stated) refusal e
 
   -- 1, 3 and 4 of each kind
-  state_small : (n m : ℕ) (h : Head) → Small most (Questions.state n m h)
+  state_small : (n m : ℕ) (h : Head) → Small most (Questions.state_questions n m h)
   state_small n m h =
-      then_small _ _ (then_small _ _ (width_small n) (unless_small ((leb 1 m && leb m 8) && leb m n) Picks refl)) (head_small n h)
+      then_small _ _ (then_small _ _ (width_small n) (unless_small ((leb 1 m && leb m Questions.max_picks) && leb m n) Picks refl)) (head_small n h)
 
-  tree_state_small : (n m : ℕ) (h : Head) → Small most (Tree.state n m h)
+  tree_state_small : (n m : ℕ) (h : Head) → Small most (TreeCalls.state_questions n m h)
   tree_state_small n m h =
       then_small _ _
       (then_small _ _ (then_small _ _ (width_small n) (unless_small (member n (map (λ k. 2 ^ k) (range 1 n))) TreeWidth refl)) (one_pick_small m))
       (head_small n h)
 
-  bus_state_small : (n m : ℕ) (h : Head) → Small most (Bus.state n m h)
+  bus_state_small : (n m : ℕ) (h : Head) → Small most (BusCalls.state_questions n m h)
   bus_state_small n m h = then_small _ _ (then_small _ _ (width_small n) (one_pick_small m)) (token_small n h)
 
 first_small : (refusal : ℕ → Refusal) (most : ℕ) (ps : List ℕ)
@@ -111,7 +114,7 @@ bits_small bytes =
     first_small NotABit (length bytes) (places (ltb 1) 0 bytes) (λ i e. omega (arith, (found (ltb 1) 0 i bytes e).high))
 
 -- an outcome that can be printed: what its place and its grants are bounded by
-pub record Printable (s : State) (most : ℕ) (o : Outcome) : Type 0 where
+pub record Printable (s : State) (most : ℕ) (o : Effect) : Type 0 where
   pub width : o.answer.state.width ≡ s.width
   pub place : place o.answer ≤ most
   pub grants : length o.written ≡ s.width
@@ -130,7 +133,7 @@ writes_printable (Err refusal) s answer target former small nowhere same long sh
 -- the station of the next head
 next_station : (n m : ℕ) (h : Head) (asks : ℕ → Bool) → start h < n → start (next n m h asks) < n
 next_station n m h asks l =
-    let k = Rule.next_head n m h asks l in omega (arith, k.1, ap start k.2 ∙ Rule.start_at k.0)
+    let k = RoundRobinLaws.next_head n m h asks l in omega (arith, k.1, ap start k.2 ∙ RoundRobinLaws.start_at k.0)
 
 module _ (s : State) (requests : List ℕ) where
   abbrev size : ℕ
@@ -138,49 +141,49 @@ module _ (s : State) (requests : List ℕ) where
 
   -- by the round-robin rule
   ruled_printable : (v : Verdict) → Small (length requests) v → (v ≡ passed → start s.head < s.width)
-      → Printable s (length requests) (writes v s (RoundRobin.answer s requests) (RoundRobin.granting s requests) (replicate s.width 0))
+      → Printable s (length requests) (writes v s (RoundRobinCalls.answer s requests) (RoundRobinCalls.granting s requests) (replicate s.width 0))
   ruled_printable v small station =
-      writes_printable v s (RoundRobin.answer s requests) (RoundRobin.granting s requests) (replicate s.width 0) small
+      writes_printable v s (RoundRobinCalls.answer s requests) (RoundRobinCalls.granting s requests) (replicate s.width 0) small
       refl
       refl
-      (Rule.grants_length s.width s.picks s.head (RoundRobin.asking s requests))
+      (RoundRobinLaws.grants_length s.width s.picks s.head (RoundRobinCalls.asking s requests))
       (length-replicate s.width 0)
-      (λ z. next_station s.width s.picks s.head (RoundRobin.asking s requests) (station z))
+      (λ z. next_station s.width s.picks s.head (RoundRobinCalls.asking s requests) (station z))
 
   -- 5, 6 and 8
-  cycle_small : Small (length requests) (Questions.cycle s.width requests size)
+  cycle_small : Small (length requests) (Questions.cycle_questions s.width requests size)
   cycle_small =
       let n = s.width in
       then_small _ _
       (then_small _ _ (length_small n (length requests) ReadLength refl) (length_small n size WriteLength refl))
       (bits_small requests)
 
-  scan_printable : Printable s (length requests) (RoundRobin.cycle s requests (replicate s.width 0))
+  scan_printable : Printable s (length requests) (RoundRobinCalls.cycle s requests (replicate s.width 0))
   scan_printable =
       let n = s.width in
-      ruled_printable (RoundRobin.questions s requests size) (then_small _ _ (state_small n s.picks s.head) cycle_small)
-      (λ z. (Questions-as-Laws.ready n s.picks s.head requests size z).allows.station)
+      ruled_printable (RoundRobinCalls.questions s.width s.picks s.head requests size) (then_small _ _ (state_small n s.picks s.head) cycle_small)
+      (λ z. (QuestionsLaws.ready n s.picks s.head requests size z).allows.station)
 
   -- the tree's cycle, as a call that writes its grants
   tree_written : (v : Verdict) (answer : Answer) (target formerGrants tree formerNodes : List ℕ)
-      → let o = if_passed {A = Tree.Outcome} v (record { answer = answer; grants = target; nodes = tree })
+      → let o = if_passed {A = TreeCalls.TreeEffect} v (record { answer = answer; grants = target; nodes = tree })
       (λ e. record { answer = Answers.refused e s; grants = formerGrants; nodes = formerNodes }) in
-      ◌≡◌ {A = Outcome} (record { answer = o.answer; written = o.grants }) (writes v s answer target formerGrants)
+      ◌≡◌ {A = Effect} (record { answer = o.answer; written = o.grants }) (writes v s answer target formerGrants)
   tree_written (Ok _) answer target formerGrants tree formerNodes = refl
   tree_written (Err e) answer target formerGrants tree formerNodes = refl
 
-  tree_writes : (grants nodes : List ℕ) → let o = Tree.cycle s requests grants nodes in
+  tree_writes : (grants nodes : List ℕ) → let o = TreeCalls.cycle s requests grants nodes in
       record { answer = o.answer; written = o.grants }
-      ≡ writes (Tree.questions s.width s.picks s.head requests (length grants) (length nodes)) s (RoundRobin.answer s requests) (RoundRobin.granting s requests) grants
-  unfolding Tree.cycle
-  tree_writes grants nodes = tree_written (Tree.questions s.width s.picks s.head requests (length grants) (length nodes)) _ _ _ _ _
+      ≡ writes (TreeCalls.questions s.width s.picks s.head requests (length grants) (length nodes)) s (RoundRobinCalls.answer s requests) (RoundRobinCalls.granting s requests) grants
+  unfolding TreeCalls.cycle
+  tree_writes grants nodes = tree_written (TreeCalls.questions s.width s.picks s.head requests (length grants) (length nodes)) _ _ _ _ _
 
-  tree_printable : (nodes : List ℕ) → let o = Tree.cycle s requests (replicate s.width 0) nodes in
+  tree_printable : (nodes : List ℕ) → let o = TreeCalls.cycle s requests (replicate s.width 0) nodes in
       Printable s (length requests) (record { answer = o.answer; written = o.grants })
   tree_printable nodes =
       let n = s.width in
       rw (tree_writes (replicate n 0) nodes)
-      (ruled_printable (Tree.questions n s.picks s.head requests size (length nodes))
+      (ruled_printable (TreeCalls.questions n s.picks s.head requests size (length nodes))
       (then_small _ _
       (then_small _ _
       (then_small _ _
@@ -188,23 +191,23 @@ module _ (s : State) (requests : List ℕ) where
       (length_small n size WriteLength refl))
       (length_small (2 * n) (length nodes) NodesLength refl))
       (bits_small requests))
-      (λ z. (TreeLaws.ready n s.picks s.head requests size (length nodes) z).allows.station))
+      (λ z. (TreeCallsLaws.ready n s.picks s.head requests size (length nodes) z).allows.station))
 
-  bus_printable : (byte : ℕ) → Printable s (length requests) (Bus.cycle s requests (replicate s.width 0) byte)
+  bus_printable : (byte : ℕ) → Printable s (length requests) (BusCalls.cycle s requests (replicate s.width 0) byte)
   bus_printable byte =
       let n = s.width in
-      let t = Bus.token s in
-      let asks = RoundRobin.asking s requests in
-      let ack = BusNext.acknowledged byte in
-      writes_printable (Bus.questions n s.picks s.head requests size byte) s (Bus.answer s requests byte) (Bus.granting s requests) (replicate n 0)
+      let t = BusCalls.token s in
+      let asks = RoundRobinCalls.asking s requests in
+      let ack = BusRule.acknowledged byte in
+      writes_printable (BusCalls.questions n s.picks s.head requests size byte) s (BusCalls.answer s requests byte) (BusCalls.granting s requests) (replicate n 0)
       (then_small _ _ (then_small _ _ (bus_state_small n s.picks s.head) cycle_small) (unless_small (leb byte 1) Acknowledge refl))
       refl
       refl
-      (ap length (BusRule.grants_marks n t asks) ∙ Lists.length_table _ 0 n)
+      (ap length (BusLaws.grants_marks n t asks) ∙ ListsLaws.length_table _ 0 n)
       (length-replicate n 0)
       (λ z.
-      let station = (BusLaws.ready n s.picks s.head requests size byte z).allows.station in
-      omega (arith, BusRule.next_below n t ack asks station, Rule.start_at (BusNext.next n t ack asks)))
+      let station = (BusCallsLaws.ready n s.picks s.head requests size byte z).allows.station in
+      omega (arith, BusLaws.next_below n t ack asks station, RoundRobinLaws.start_at (BusRule.next n t ack asks)))
 
   called_printable : (e : Kind) (byte : ℕ) → Printable s (length requests) (called e s requests byte)
   called_printable (RoundRobin Scan) byte = scan_printable
@@ -214,7 +217,7 @@ module _ (s : State) (requests : List ℕ) where
   called_printable TokenBus byte = bus_printable byte
 
 pub bus_formed : (n : ℕ) (line : List ℕ) → well_formed TokenBus n line ≡ true → length line ≡ n + 2
-bus_formed n line t = eqb-true (length line) (n + 2) (Lists.both (eqb (length line) (n + 2)) (eqb (get_or line n 0) space) t).0
+bus_formed n line t = eqb-true (length line) (n + 2) (ListsLaws.both (eqb (length line) (n + 2)) (eqb (get_or line n 0) space) t).0
 
 -- a line that question 5 lets pass has a character for each station
 pub formed_long : (e : Kind) (n : ℕ) (line : List ℕ) → well_formed e n line ≡ true → n ≤ length line
@@ -237,7 +240,7 @@ module _ (e : Kind) (s : State) (line : List ℕ) where
 
   pub cycle_printable : Printable s s.width (cycle e s line)
   cycle_printable =
-      Lists.split (well_formed e s.width line)
+      ListsLaws.split (well_formed e s.width line)
       (λ t.
       let p = called_printable s requests e (wire (get_or line (s.width + 1) 0)) in
       let long = length-map (take s.width line) wire in
@@ -264,18 +267,18 @@ module _ (e : Kind) (s : State) (line : List ℕ) where
   -- a place that is named is a character's
   pub cycle_place : place (cycle e s line).answer ≤ length line
   cycle_place =
-      Lists.split (well_formed e s.width line) (λ t. omega (arith, cycle_printable.place, formed_long e s.width line t))
-      (λ f. omega (arith, ap (λ (o : Outcome). place o.answer) (cycle_refused f)))
+      ListsLaws.split (well_formed e s.width line) (λ t. omega (arith, cycle_printable.place, formed_long e s.width line t))
+      (λ f. omega (arith, ap (λ (o : Effect). place o.answer) (cycle_refused f)))
 
   -- a served line has a character for each station
   pub served_long : number (cycle e s line).answer ≡ 0 → s.width ≤ length line
   served_long z =
-      Lists.split (well_formed e s.width line) (formed_long e s.width line)
-      (λ f. absurd (refusal_number ReadLength (sym (ap (λ (o : Outcome). number o.answer) (cycle_refused f)) ∙ z)))
+      ListsLaws.split (well_formed e s.width line) (formed_long e s.width line)
+      (λ f. absurd (refusal_number ReadLength (sym (ap (λ (o : Effect). number o.answer) (cycle_refused f)) ∙ z)))
 
 -- a refusal's line: five digits at most for the line's number, two for the refusal's, and those of the place
-refusal_long : (k number place digits : ℕ) → k < 100000 → number < 100 → place < 10 ^ suc digits → length (refusal k number place) ≤ 19 + digits
-unfolding refusal
+refusal_long : (k number place digits : ℕ) → k < 100000 → number < 100 → place < 10 ^ suc digits → length (refusal_line k number place) ≤ 19 + digits
+unfolding refusal_line
 refusal_long k number place digits a b c =
     let one = length-append (decimal k) (refused_word ++ (decimal number ++ ((space ∷ []) ++ (decimal place ++ (line_feed ∷ []))))) in
     let two = length-append (decimal number) ((space ∷ []) ++ (decimal place ++ (line_feed ∷ []))) in
@@ -283,7 +286,7 @@ refusal_long k number place digits a b c =
     omega (arith, decimal_few 4 k a, decimal_few 1 number b, decimal_few digits place c)
 
 -- one that names no place
-pub refusal_short : (k number place : ℕ) → k < 100000 → number < 100 → place ≤ 0 → length (refusal k number place) ≤ 19
+pub refusal_short : (k number place : ℕ) → k < 100000 → number < 100 → place ≤ 0 → length (refusal_line k number place) ≤ 19
 refusal_short k number place a b c = refusal_long k number place 0 a b (omega arith)
 
 granted_short : (k : ℕ) (grants : List ℕ) (next : ℕ) → k < 100000 → next < 10000 → length (granted k grants next) ≤ length grants + 12
@@ -302,7 +305,7 @@ told_short : (k : ℕ) (r : Result ℕ Refusal) (grants : List ℕ) (next long :
 told_short k (Ok count) grants next long few wide served place within =
     let z = served refl in omega (arith, granted_short k grants next few z.0, z.1)
 told_short k (Err refusal) grants next long few wide served place within =
-    Lists.split (leb (Refusals.place refusal) 0)
+    ListsLaws.split (leb (Refusals.place refusal) 0)
     (λ t. omega (arith, refusal_short k (Refusals.number refusal) (Refusals.place refusal) few (number_few refusal) (leb-true (Refusals.place refusal) 0 t)))
     (λ f.
     omega (
@@ -352,8 +355,8 @@ opened_wide (Ok _) n m h p = p refl
 opened_wide (Err refusal) n m h p = omega arith
 
 pub opening_wide : (e : Kind) (n m : ℕ) → (opening e n m).state.width ≤ Questions.max_width
-opening_wide (RoundRobin Scan) n m = opened_wide _ n m None (λ z. (Questions-as-Laws.allowed n m None z).most)
-opening_wide (RoundRobin Tree) n m = opened_wide _ n m None (λ z. (TreeLaws.allowed n m None z).most)
-opening_wide (RoundRobin Thermometer) n m = opened_wide _ n m None (λ z. (Questions-as-Laws.allowed n m None z).most)
-opening_wide (RoundRobin KoggeStone) n m = opened_wide _ n m None (λ z. (Questions-as-Laws.allowed n m None z).most)
-opening_wide TokenBus n m = opened_wide _ n m (Some 0) (λ z. (BusLaws.allowed n m (Some 0) z).most)
+opening_wide (RoundRobin Scan) n m = opened_wide _ n m None (λ z. (QuestionsLaws.allowed n m None z).most)
+opening_wide (RoundRobin Tree) n m = opened_wide _ n m None (λ z. (TreeCallsLaws.allowed n m None z).most)
+opening_wide (RoundRobin Thermometer) n m = opened_wide _ n m None (λ z. (QuestionsLaws.allowed n m None z).most)
+opening_wide (RoundRobin KoggeStone) n m = opened_wide _ n m None (λ z. (QuestionsLaws.allowed n m None z).most)
+opening_wide TokenBus n m = opened_wide _ n m (Some 0) (λ z. (BusCallsLaws.allowed n m (Some 0) z).most)

@@ -1,4 +1,5 @@
 -- What is known of first lines that are being read.
+-- Promises `first_single` and `first_opens`. The rest are steps of their proofs.
 -- Assumes nothing.
 use Prim.Native.Nat.{ℕ, ◌+◌}
 use Rattle.std.specs.Prelude.{◌≡◌, List, length, take, drop, get_or, ◌==◌, position, None, Some}
@@ -8,7 +9,7 @@ use borrow.Author.Tests.{eq-eqb, lt-ltb, le-ltb}
 use Rattle.text.specs.Characters.{space}
 use Rattle.transcript.specs.Lines.{place}
 use Rattle.transcript.specs.Lines.Laws.{place_found, place_missing}
-use Rattle.transcript.specs.FirstLine.{letter, number, opens, first_line}
+use Rattle.transcript.specs.FirstLine.{letter, read_number, together, first_line}
 
 -- a line with the first space, and what follows it
 module _ (line : List ℕ) (spaced : get_or line 1 0 ≡ space) where
@@ -23,7 +24,7 @@ module _ (line : List ℕ) (spaced : get_or line 1 0 ≡ space) where
 
   -- with it, it is readable if its three parts are
   pub first_opens : (end : ℕ) → position (λ c. c == space) numbers ≡ Some end
-      → first_line line ≡ opens (letter (get_or line 0 0)) (number (take end numbers)) (number (drop (end + 1) numbers))
+      → first_line line ≡ together (letter (get_or line 0 0)) (read_number (take end numbers)) (read_number (drop (end + 1) numbers))
   unfolding first_line
   first_opens end e =
       let k = place_found space numbers end e in

@@ -13,7 +13,7 @@ use Rattle.std.proofs.lemmas.Grind.{common_steps}
 use Rattle.std.specs.declared.slice.Split.{Split}
 use denote.Param.Members.{Mut}
 use denote.Ref.{Bor}
-use Rattle.rules.specs.Lists.Laws as Lists
+use Rattle.rules.specs.Lists.Laws as ListsLaws
 use Rattle.text.specs.Characters.{line_feed}
 use Rattle.transcript.specs.Lines.{place, on_first, split, unended, left}
 
@@ -29,12 +29,12 @@ place_is b xs = is_position_or_len (place b) (λ x. x == b) refl (λ x xs. cond_
 pub place_le : (b : ℕ) (xs : List ℕ) → place b xs ≤ length xs
 unfolding place
 place_le b [] = omega arith
-place_le b (x ∷ xs) = Lists.split (eqb x b) (λ t. rw t (omega arith)) (λ f. rw f (omega (arith, place_le b xs)))
+place_le b (x ∷ xs) = ListsLaws.split (eqb x b) (λ t. rw t (omega arith)) (λ f. rw f (omega (arith, place_le b xs)))
 
 -- what a search finds
 pub place_found : (b : ℕ) (xs : List ℕ) (i : ℕ) → position (λ x. x == b) xs ≡ Some i → (place b xs ≡ i) × (i < length xs)
 place_found b xs i e =
-    Lists.split (ltb (position_or_len (λ x. x == b) xs) (length xs))
+    ListsLaws.split (ltb (position_or_len (λ x. x == b) xs) (length xs))
     (λ t.
     let same : position_or_len (λ x. x == b) xs ≡ i = let all = rw t at e in cc in
     (place_is b xs ∙ same, omega (arith, same, ltb-true _ _ t)))
@@ -42,7 +42,7 @@ place_found b xs i e =
 
 pub place_missing : (b : ℕ) (xs : List ℕ) → position (λ x. x == b) xs ≡ None → place b xs ≡ length xs
 place_missing b xs e =
-    Lists.split (ltb (position_or_len (λ x. x == b) xs) (length xs))
+    ListsLaws.split (ltb (position_or_len (λ x. x == b) xs) (length xs))
     (λ t. let all = rw t at e in let no : ⊥ = cc in absurd no)
     (λ f. omega (arith, place_le b xs, place_is b xs, ltb-false _ _ f))
 
@@ -51,7 +51,7 @@ pub split_some : (b : ℕ) (xs : List ℕ) → 0 < length (split b xs)
 unfolding split
 split_some b [] = omega arith
 split_some b (x ∷ xs) =
-    Lists.split (eqb x b) (λ t. rw t (omega arith)) (λ f. rw f (omega (arith, split_some b xs, on_first_length x (split b xs))))
+    ListsLaws.split (eqb x b) (λ t. rw t (omega arith)) (λ f. rw f (omega (arith, split_some b xs, on_first_length x (split b xs))))
   where
     on_first_length : (x : ℕ) (ps : List (List ℕ)) → length (on_first x ps) ≡ length ps
     on_first_length x [] = refl
@@ -61,7 +61,7 @@ pub split_is : (b : ℕ) (xs : List ℕ) → split b xs ≡ slice_split (λ x. x
 unfolding split
 split_is b [] = refl
 split_is b (x ∷ xs) =
-    Lists.split (eqb x b)
+    ListsLaws.split (eqb x b)
     (λ t. rw (t, split_is b xs))
     (λ f. rw f (on_first_is x (split b xs) (split_some b xs) ∙ ap (onto_first x) (split_is b xs)))
   where
@@ -122,7 +122,7 @@ pub split_total : (b : ℕ) (xs : List ℕ) → total_length (split b xs) ≤ 1 
 unfolding split
 split_total b [] = omega arith
 split_total b (x ∷ xs) =
-    Lists.split (eqb x b)
+    ListsLaws.split (eqb x b)
     (λ t. rw t (omega (arith, split_total b xs)))
     (λ f. rw f (omega (arith, split_total b xs, on_first_total x (split b xs))))
 
@@ -137,7 +137,7 @@ left_few body first more is = omega (arith, ap length is, lines_few (split line_
 pub unended_short : (input : List ℕ) → length (unended input) ≤ length input
 unfolding unended
 unended_short input =
-    Lists.split (eqb (get_or input (length input - 1) 0) line_feed)
+    ListsLaws.split (eqb (get_or input (length input - 1) 0) line_feed)
     (λ t. rw t (omega (arith, length-take (length input - 1) input)))
     (λ f. rw f (omega arith))
 

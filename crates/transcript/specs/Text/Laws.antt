@@ -1,9 +1,10 @@
 -- What follows the heading, told by the first line that was read, and how long the text is.
+-- Promises `follows`, `text_refused`, `text_follows`, `limit` and `text_fits`. The rest are steps of their proofs.
 -- Assumes nothing.
 use Rattle.std.specs.Prelude.{ℕ, ◌+◌, ◌*◌, ◌≤◌, ◌<◌, ◌≡◌, List, [], ◌++◌, leb, length, drop, get_or, Option, None, Some, Result, Ok, Err}
 use Rattle.std.proofs.Common.{ap, arith, length-append}
 use borrow.Author.Tests.{le-leb, lt-leb, leb-true, leb-false}
-use Rattle.rules.specs.Lists.Laws as Lists
+use Rattle.rules.specs.Lists.Laws as ListsLaws
 use Rattle.text.specs.Characters.{line_feed}
 use Rattle.arbiter.specs.declared.State.{State}
 use Rattle.arbiter.specs.declared.refusal.Refusal.{Refusal}
@@ -15,16 +16,16 @@ use Rattle.transcript.specs.declared.first_line.FirstLine.{FirstLine}
 use Rattle.transcript.specs.Lines.{split, unended}
 use Rattle.transcript.specs.Lines.Laws.{unended_short, total_length, split_total, rest_total, lines_few}
 use Rattle.transcript.specs.FirstLine.{first_line}
-use Rattle.transcript.specs.Cycles.{opening, refusal}
+use Rattle.transcript.specs.Cycles.{opening, refusal_line}
 use Rattle.transcript.specs.Cycles.Laws.{number_few, refusal_short, run_short, opening_nowhere, opening_wide}
-use Rattle.transcript.specs.Text.{heading, max_input, opened_with, opened, answered, text}
+use Rattle.transcript.specs.Text.{heading, max_input, after_opening, after_first_line, after_heading, text}
 
 -- what follows the heading, for an input without its final line feed
 abbrev pub follows : List ℕ → List ℕ
-follows body = answered (split line_feed body)
+follows body = after_heading (split line_feed body)
 
 -- the whole text
-pub text_refused : (input : List ℕ) → max_input < length input → text input ≡ heading ++ refusal 0 12 0
+pub text_refused : (input : List ℕ) → max_input < length input → text input ≡ heading ++ refusal_line 0 12 0
 unfolding text
 text_refused input l = rw (lt-leb (length input) max_input l)
 
@@ -34,14 +35,14 @@ text_follows input l = rw (le-leb (length input) max_input l)
 
 -- how long it is: what follows the heading is at most 19 times as long as the longest input
 with_short : (e : Kind) (r : Result ℕ Refusal) (s : State) (ls : List (List ℕ)) → s.width ≤ max_width → place_of r ≤ 0
-    → total_length ls ≤ max_input → length (opened_with e r s ls) ≤ 19 * max_input
+    → total_length ls ≤ max_input → length (after_opening e r s ls) ≤ 19 * max_input
 with_short e (Ok count) s ls wide nowhere l = omega (arith, run_short e s 1 ls wide (omega (arith, lines_few ls)))
 with_short e (Err refusal) s ls wide nowhere l =
     omega (arith, refusal_short 0 (Refusals.number refusal) (Refusals.place refusal) (omega arith) (number_few refusal) nowhere)
 
 opened_short : (first : Option FirstLine) (ls : List (List ℕ)) → total_length ls ≤ max_input
-    → length (opened first ls) ≤ 19 * max_input
-unfolding opened
+    → length (after_first_line first ls) ≤ 19 * max_input
+unfolding after_first_line
 opened_short None ls l = omega (arith, refusal_short 0 11 0 (omega arith) (omega arith) (omega arith))
 opened_short (Some f) ls l =
     let a = opening f.kind f.width f.picks in
@@ -58,7 +59,7 @@ limit = length heading + 19 * max_input
 
 pub text_fits : (input : List ℕ) → length (text input) ≤ limit
 text_fits input =
-    Lists.split (leb (length input) max_input)
+    ListsLaws.split (leb (length input) max_input)
     (λ t.
     let l = leb-true (length input) max_input t in
     let short = follows_short (unended input) (omega (arith, unended_short input)) in

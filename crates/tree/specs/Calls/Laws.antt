@@ -8,9 +8,9 @@ use Rattle.rules.proofs.Walk.Laws.{Walked}
 use Rattle.rules.specs.Head.{Head}
 use Rattle.rules.specs.Lists.{bit}
 use Rattle.rules.specs.RoundRobin.{start, grants}
-use Rattle.rules.proofs.RoundRobin.Laws as RoundRobin
-use Rattle.rules.specs.Tree as Rule
-use Rattle.rules.proofs.Tree.Laws as Tree
+use Rattle.rules.proofs.RoundRobin.Laws as RoundRobinLaws
+use Rattle.rules.specs.Tree as TreeRule
+use Rattle.rules.proofs.Tree.Laws as TreeLaws
 use Rattle.arbiter.specs.declared.State.{State}
 use Rattle.arbiter.specs.Places.{Bits, first}
 use Rattle.arbiter.specs.Questions as Questions
@@ -22,7 +22,7 @@ use Rattle.arbiter.specs.Decisions.{requested, decision, counted}
 use Rattle.arbiter.specs.Decisions.Laws.{walked, pending_bytes}
 use Rattle.arbiter.specs.Decisions.OnePick.{one_walked}
 use Rattle.tree.specs.Subtrees.Laws.{chosen_granted}
-use Rattle.tree.specs.Calls.{Outcome, state, questions, cycle}
+use Rattle.tree.specs.Calls.{TreeEffect, state_questions, questions, cycle}
 use Rattle.tree.specs.Steps.{Values}
 
 -- what is known once 1, 2, 3 and 4 have passed
@@ -34,7 +34,7 @@ pub record Allowed (n m : ℕ) (h : Head) : Type 0 where
   pub one : m ≡ 1
   pub station : start h < n
 
-pub allowed : (n m : ℕ) (h : Head) → state n m h ≡ passed → Allowed n m h
+pub allowed : (n m : ℕ) (h : Head) → state_questions n m h ≡ passed → Allowed n m h
 allowed n m h z =
     let two = Questions.width n then Questions.tree_width n in
     let c = then_served (two then Questions.one_pick m) (Questions.head n h) z in
@@ -62,13 +62,13 @@ pub record Ready (n m : ℕ) (h : Head) (requests : List ℕ) (grantsSize nodesS
 pub ready : (n m : ℕ) (h : Head) (requests : List ℕ) (grantsSize nodesSize : ℕ)
     → questions n m h requests grantsSize nodesSize ≡ passed → Ready n m h requests grantsSize nodesSize
 ready n m h requests grantsSize nodesSize z =
-    let five = state n m h then Questions.read_length n (length requests) in
+    let five = state_questions n m h then Questions.read_length n (length requests) in
     let six = five then Questions.write_length n grantsSize in
     let seven = six then Questions.nodes_length n nodesSize in
     let d = then_served seven (Questions.bits 0 requests) z in
     let c = then_served six (Questions.nodes_length n nodesSize) d.0 in
     let b = then_served five (Questions.write_length n grantsSize) c.0 in
-    let a = then_served (state n m h) (Questions.read_length n (length requests)) b.0 in
+    let a = then_served (state_questions n m h) (Questions.read_length n (length requests)) b.0 in
     record {
       allows = allowed n m h a.0;
       asked = length_served _ n (length requests) a.1;
@@ -83,33 +83,33 @@ pub answered_cycle : (s : State) (requests former formerNodes : List ℕ)
     let o = cycle s requests former formerNodes in
     (answered s (v then Ok (decision s.width s.picks s.head (asking s requests))) ≡ o.answer)
     × (if_passed v (granting s requests) (λ _. former) ≡ o.grants)
-    × (if_passed v (Rule.nodes s.width s.head (asking s requests)) (λ _. formerNodes) ≡ o.nodes)
+    × (if_passed v (TreeRule.nodes s.width s.head (asking s requests)) (λ _. formerNodes) ≡ o.nodes)
 unfolding cycle
 answered_cycle s requests former formerNodes =
     by (questions s.width s.picks s.head requests (length former) (length formerNodes))
   where
     by : (v : Verdict)
-        → let o : Outcome = if_passed v
-        (record { answer = answer s requests; grants = granting s requests; nodes = Rule.nodes s.width s.head (asking s requests) })
+        → let o : TreeEffect = if_passed v
+        (record { answer = answer s requests; grants = granting s requests; nodes = TreeRule.nodes s.width s.head (asking s requests) })
         (λ refusal. record { answer = refused refusal s; grants = former; nodes = formerNodes }) in
         (answered s (v then Ok (decision s.width s.picks s.head (asking s requests))) ≡ o.answer)
         × (if_passed v (granting s requests) (λ _. former) ≡ o.grants)
-        × (if_passed v (Rule.nodes s.width s.head (asking s requests)) (λ _. formerNodes) ≡ o.nodes)
+        × (if_passed v (TreeRule.nodes s.width s.head (asking s requests)) (λ _. formerNodes) ≡ o.nodes)
     by (Ok _) = (refl, refl, refl)
     by (Err refusal) = (refl, refl, refl)
 
 module _ (n m : ℕ) (h : Head) (asks : ℕ → Bool) (a : Allowed n m h) where
   abbrev tree : List ℕ
-  tree = Rule.nodes n h asks
+  tree = TreeRule.nodes n h asks
 
   -- the tree of the requests and the head grants whom the round-robin rule grants
-  pub tree_grants : Rule.grants n tree ≡ grants n m h asks
-  unfolding Rule.grants
+  pub tree_grants : TreeRule.grants n tree ≡ grants n m h asks
+  unfolding TreeRule.grants
   tree_grants =
       let same = chosen_granted n a.levels h asks a.power a.station in
-      rw (a.one, same, RoundRobin.grants_marks n 1 h asks)
+      rw (a.one, same, RoundRobinLaws.grants_marks n 1 h asks)
 
-  tree_walked : (z : Option ℕ) {new : List ℕ} → z ≡ first (Rule.chosen n tree) → new ≡ Rule.grants n tree
+  tree_walked : (z : Option ℕ) {new : List ℕ} → z ≡ first (TreeRule.chosen n tree) → new ≡ TreeRule.grants n tree
       → Walked n m h asks (bit (is_some z)) z new
   tree_walked z e bytes =
       let same = chosen_granted n a.levels h asks a.power a.station in
@@ -119,15 +119,15 @@ module _ (n m : ℕ) (h : Head) (asks : ℕ → Bool) (a : Allowed n m h) where
 
   -- and its bytes are values
   pub tree_values : Values n tree
-  tree_values = Tree.node_below n h asks a.some
+  tree_values = TreeLaws.node_below n h asks a.some
 
   pub tree_length : length tree ≡ 2 * n
-  tree_length = Tree.nodes_length_lem n h asks a.some
+  tree_length = TreeLaws.nodes_length_lem n h asks a.some
 
 -- so what is decided where it grants z, if anyone, is what the rule decides
 pub tree_decides : (n m : ℕ) (h : Head) (requests : List ℕ) → Allowed n m h → length requests ≡ n → Bits requests
-    → (z : Option ℕ) {c : ℕ} {new : List ℕ} {pending : Bool} → z ≡ first (Rule.chosen n (Rule.nodes n h (requested requests))) → c ≡ bit (is_some z)
-    → new ≡ Rule.grants n (Rule.nodes n h (requested requests)) → pending ≡ (eqb c m && not (pointwise nat_eq requests new))
+    → (z : Option ℕ) {c : ℕ} {new : List ℕ} {pending : Bool} → z ≡ first (TreeRule.chosen n (TreeRule.nodes n h (requested requests))) → c ≡ bit (is_some z)
+    → new ≡ TreeRule.grants n (TreeRule.nodes n h (requested requests)) → pending ≡ (eqb c m && not (pointwise nat_eq requests new))
     → counted n h c z pending ≡ decision n m h (requested requests)
 tree_decides n m h requests a long bits z e one bytes more =
     let w = tree_walked n m h (requested requests) a z e bytes in

@@ -1,318 +1,32 @@
 -- The tree follows the round-robin rule: each node's value means what 000's Table 1 says, the descent reaches the first asking
 -- station in order, and so the tree grants whom the rule grants. All that is used of the rule are its laws.
+-- Promises `below_power`, `table_one`, `first_reached` and `chosen_granted`. The rest are steps of their proofs.
 -- Assumes nothing.
-use Prim.Native.Nat.{ℕ, zero, suc, ◌+◌, ◌-◌, ◌*◌, ◌^◌, ◌≤◌, ◌<◌}
-use Rattle.std.specs.Prelude.{◌≡◌, refl, true, false, List, [], ◌∷◌, ◌++◌, eqb, ltb, leb, length, get_or}
+use Prim.Native.Nat.{ℕ, zero, suc, ◌+◌, ◌-◌, ◌*◌, ◌^◌, ◌<◌}
+use Rattle.std.specs.Prelude.{◌≡◌, refl, true, false, List, [], ◌∷◌, ltb, length, get_or}
 use Rattle.std.proofs.Math.Path.{sym, ap}
-use Rattle.std.proofs.Common.{◌∙◌, zero-mul, mul-add, add-mul, suc-mul, pow_pos, pow_mono}
-use Rattle.std.proofs.Math.Bool.{Bool, cond}
-use Rattle.std.proofs.Math.Nat.{zero-add, mul-one, two-pow-succ}
+use Rattle.std.proofs.Common.{◌∙◌, zero-mul, pow_pos}
+use Rattle.std.proofs.Math.Bool.{Bool}
+use Rattle.std.proofs.Math.Nat.{zero-add}
 use native.Mathlib.Omega.{arith}
-use borrow.Author.Tests.{eqb-true, eqb-false, ltb-true, ltb-false, lt-ltb, le-ltb, leb-true, le-leb, lt-leb}
+use borrow.Author.Tests.{ltb-true, ltb-false}
 use Rattle.rules.specs.Head.{Head}
-use Rattle.std.specs.Prelude.{None, Some}
-use Rattle.rules.specs.Lists.{bit, range, filter, count, before}
-use Rattle.rules.specs.Lists.Laws as Lists
+use Rattle.std.specs.Prelude.{Some}
+use Rattle.rules.specs.Lists.{filter, count, before}
+use Rattle.rules.specs.Lists.Laws as ListsLaws
 use Rattle.rules.specs.RoundRobin.{start, order, granted}
-use Rattle.rules.proofs.RoundRobin.Laws as RoundRobin
-use Rattle.rules.specs.Tree.{value, s1, s0, head_at, leaf, join, nodes, goes_right, child, descend, reached, chosen}
-use Rattle.rules.proofs.Tree.Laws as Tree
+use Rattle.rules.proofs.RoundRobin.Laws as RoundRobinLaws
+use Rattle.rules.specs.Tree.{s0, head_at, leaf, nodes, descend, reached, chosen}
+use Rattle.rules.proofs.Tree.Laws as TreeLaws
 use Rattle.arbiter.specs.Places.{first}
-use Rattle.tree.specs.Subtrees.{inside, from, some, subtree}
-
--- those that ask of the stations from one up to another
-abbrev span : (ℕ → Bool) → ℕ → ℕ → List ℕ
-span asks a b = filter asks (range a (b - a))
-
-span_none : (asks : ℕ → Bool) (a : ℕ) → span asks a a ≡ []
-span_none asks a = let none : a - a ≡ 0 = omega arith in rw none
-
-span_parts : (asks : ℕ → Bool) (a b c : ℕ) → a ≤ b → b ≤ c → span asks a c ≡ span asks a b ++ span asks b c
-span_parts asks a b c l u =
-    let sum : c - a ≡ (b - a) + (c - b) = omega arith in
-    let at : a + (b - a) ≡ b = omega arith in
-    rw (sum, Lists.range_append a (b - a) (c - b), at) (Lists.filter_append asks (range a (b - a)) (range b (c - b)))
-
--- a subtree's stations that ask: those that count, and the others
-abbrev high : Head → (ℕ → Bool) → ℕ → ℕ → List ℕ
-high h asks a c = span asks (from h a c) (a + c)
-
-abbrev low : Head → (ℕ → Bool) → ℕ → ℕ → List ℕ
-low h asks a c = span asks a (from h a c)
-
--- two halves and the whole: the head is in the left half, in the right half, or in neither
-data Halves (h : Head) (asks : ℕ → Bool) (a c : ℕ) : Type 0 where
-  in_left : inside h a c ≡ true → inside h (a + c) c ≡ false → inside h a (c + c) ≡ true
-      → high h asks a (c + c) ≡ high h asks a c ++ high h asks (a + c) c → low h asks a (c + c) ≡ low h asks a c
-      → low h asks (a + c) c ≡ [] → Halves h asks a c
-  in_right : inside h a c ≡ false → inside h (a + c) c ≡ true → inside h a (c + c) ≡ true
-      → high h asks a (c + c) ≡ high h asks (a + c) c → low h asks a (c + c) ≡ high h asks a c ++ low h asks (a + c) c
-      → low h asks a c ≡ [] → Halves h asks a c
-  in_neither : inside h a c ≡ false → inside h (a + c) c ≡ false → inside h a (c + c) ≡ false
-      → high h asks a (c + c) ≡ high h asks a c ++ high h asks (a + c) c → low h asks a (c + c) ≡ [] → low h asks a c ≡ []
-      → low h asks (a + c) c ≡ [] → Halves h asks a c
-
--- where a head is
-is_in : (k a c : ℕ) → a ≤ k → k < a + c → inside (Some k) a c ≡ true
-is_in k a c l u = rw (le-leb a k l, lt-ltb k (a + c) u)
-
-is_below : (k a c : ℕ) → k < a → inside (Some k) a c ≡ false
-is_below k a c l = rw (lt-leb a k l)
-
-is_above : (k a c : ℕ) → a ≤ k → a + c ≤ k → inside (Some k) a c ≡ false
-is_above k a c l u = rw (le-leb a k l, le-ltb k (a + c) u)
-
--- no head in the whole
-neither : (h : Head) (asks : ℕ → Bool) (a c : ℕ) → inside h a c ≡ false → inside h (a + c) c ≡ false → inside h a (c + c) ≡ false
-    → from h a c ≡ a → from h (a + c) c ≡ a + c → from h a (c + c) ≡ a → Halves h asks a c
-neither h asks a c i j k d e f =
-    let all : a + (c + c) ≡ a + c + c = omega arith in
-    in_neither i j k
-    (rw (d, e, f, all) (span_parts asks a (a + c) (a + c + c) (omega arith) (omega arith)))
-    (rw f (span_none asks a))
-    (rw d (span_none asks a))
-    (rw e (span_none asks (a + c)))
-
-halves : (h : Head) (asks : ℕ → Bool) (a c : ℕ) → Halves h asks a c
-halves None asks a c = neither None asks a c refl refl refl refl refl refl
-halves (Some k) asks a c =
-    let all : a + (c + c) ≡ a + c + c = omega arith in
-    Lists.split (ltb k a)
-    (λ t.
-    let l : k < a = ltb-true k a t in
-    let i = is_below k a c l in
-    let j = is_below k (a + c) c (omega arith) in
-    let u = is_below k a (c + c) l in
-    neither (Some k) asks a c i j u (rw i) (rw j) (rw u))
-    (λ t.
-    let l : a ≤ k = ltb-false k a t in
-    Lists.split (ltb k (a + c))
-    (λ q.
-    let m : k < a + c = ltb-true k (a + c) q in
-    let i = is_in k a c l m in
-    let j = is_below k (a + c) c m in
-    let u = is_in k a (c + c) l (omega arith) in
-    in_left i j u
-    (rw (i, j, u, all) (span_parts asks k (a + c) (a + c + c) (omega arith) (omega arith)))
-    (rw (i, u))
-    (rw j (span_none asks (a + c))))
-    (λ q.
-    let m : a + c ≤ k = ltb-false k (a + c) q in
-    Lists.split (ltb k (a + c + c))
-    (λ r.
-    let v : k < a + c + c = ltb-true k (a + c + c) r in
-    let i = is_above k a c l m in
-    let j = is_in k (a + c) c m v in
-    let u = is_in k a (c + c) l (omega arith) in
-    in_right i j u
-    (rw (j, u, all))
-    (rw (i, j, u) (span_parts asks a (a + c) k (omega arith) m))
-    (rw i (span_none asks a)))
-    (λ r.
-    let v : a + c + c ≤ k = ltb-false k (a + c + c) r in
-    let i = is_above k a c l m in
-    let j = is_above k (a + c) c m v in
-    let u = is_above k a (c + c) l (omega arith) in
-    neither (Some k) asks a c i j u (rw i) (rw j) (rw u))))
-
--- joining, by where the head is
-join_left : (x y : List ℕ) → value true (some (x ++ y)) ≡ join (value true (some x)) (value false (some y))
-unfolding value join s1 s0
-join_left [] [] = refl
-join_left [] (y ∷ ys) = refl
-join_left (x ∷ xs) [] = refl
-join_left (x ∷ xs) (y ∷ ys) = refl
-
-join_right : (x y : List ℕ) → value true (some y) ≡ join (value false (some x)) (value true (some y))
-unfolding value join s1 s0
-join_right [] [] = refl
-join_right [] (y ∷ ys) = refl
-join_right (x ∷ xs) [] = refl
-join_right (x ∷ xs) (y ∷ ys) = refl
-
-join_neither : (x y : List ℕ) → value false (some (x ++ y)) ≡ join (value false (some x)) (value false (some y))
-unfolding value join s1 s0
-join_neither [] [] = refl
-join_neither [] (y ∷ ys) = refl
-join_neither (x ∷ xs) [] = refl
-join_neither (x ∷ xs) (y ∷ ys) = refl
-
--- two subtrees side by side are joined to one
-joins : (h : Head) (asks : ℕ → Bool) (a c : ℕ) → Halves h asks a c
-    → subtree h asks a (c + c) ≡ join (subtree h asks a c) (subtree h asks (a + c) c)
-joins h asks a c (in_left i j u e f g) = rw (i, j, u, e) (join_left (high h asks a c) (high h asks (a + c) c))
-joins h asks a c (in_right i j u e f g) = rw (i, j, u, e) (join_right (high h asks a c) (high h asks (a + c) c))
-joins h asks a c (in_neither i j u e f g o) = rw (i, j, u, e) (join_neither (high h asks a c) (high h asks (a + c) c))
-
--- choosing, by where the head is: the half with the one that comes first
-lead_left : (x y z : List ℕ)
-    → first ((x ++ y) ++ z) ≡ cond (goes_right (value true (some x)) (value false (some y))) (first (y ++ [])) (first (x ++ z))
-unfolding value goes_right s0
-lead_left [] [] z = refl
-lead_left [] (y ∷ ys) z = refl
-lead_left (x ∷ xs) [] z = refl
-lead_left (x ∷ xs) (y ∷ ys) z = refl
-
-lead_right : (x y z : List ℕ)
-    → first (y ++ (x ++ z)) ≡ cond (goes_right (value false (some x)) (value true (some y))) (first (y ++ z)) (first (x ++ []))
-unfolding value goes_right s0
-lead_right [] [] z = refl
-lead_right [] (y ∷ ys) z = refl
-lead_right (x ∷ xs) [] z = refl
-lead_right (x ∷ xs) (y ∷ ys) z = refl
-
-lead_neither : (x y : List ℕ)
-    → first ((x ++ y) ++ []) ≡ cond (goes_right (value false (some x)) (value false (some y))) (first (y ++ [])) (first (x ++ []))
-unfolding value goes_right s0
-lead_neither [] [] = refl
-lead_neither [] (y ∷ ys) = refl
-lead_neither (x ∷ xs) [] = refl
-lead_neither (x ∷ xs) (y ∷ ys) = refl
-
--- a subtree's stations that ask, in order
-abbrev turn : Head → (ℕ → Bool) → ℕ → ℕ → List ℕ
-turn h asks a c = high h asks a c ++ low h asks a c
-
--- the choice leads to the half with the station that comes first
-leads : (h : Head) (asks : ℕ → Bool) (a c : ℕ) → Halves h asks a c
-    → first (turn h asks a (c + c))
-    ≡ cond (goes_right (subtree h asks a c) (subtree h asks (a + c) c)) (first (turn h asks (a + c) c)) (first (turn h asks a c))
-leads h asks a c (in_left i j u e f g) = rw (i, j, e, f, g) (lead_left (high h asks a c) (high h asks (a + c) c) (low h asks a c))
-leads h asks a c (in_right i j u e f g) = rw (i, j, e, f, g) (lead_right (high h asks a c) (high h asks (a + c) c) (low h asks (a + c) c))
-leads h asks a c (in_neither i j u e f g o) = rw (i, j, e, f, g, o) (lead_neither (high h asks a c) (high h asks (a + c) c))
-
--- one station: the head inside is at it, and it counts
-from_one : (h : Head) (a : ℕ) → from h a 1 ≡ a
-from_one None a = refl
-from_one (Some k) a =
-    Lists.split (inside (Some k) a 1)
-    (λ t.
-    let b = Lists.both (leb a k) (ltb k (a + 1)) t in
-    rw t (omega (arith, leb-true a k b.0, ltb-true k (a + 1) b.1)))
-    (λ f. rw f)
-
-inside_one : (h : Head) (a : ℕ) → inside h a 1 ≡ head_at h a
-unfolding head_at
-inside_one None a = refl
-inside_one (Some k) a =
-    Lists.split (eqb k a)
-    (λ t. let e : k ≡ a = eqb-true k a t in rw t (is_in k a 1 (omega arith) (omega arith)))
-    (λ f.
-    rw f
-    (Lists.split (ltb k a)
-    (λ t. is_below k a 1 (ltb-true k a t))
-    (λ t. is_above k a 1 (ltb-false k a t) (omega (arith, ltb-false k a t, eqb-false k a f)))))
-
-high_one : (h : Head) (asks : ℕ → Bool) (a : ℕ) → high h asks a 1 ≡ cond (asks a) (a ∷ []) []
-high_one h asks a = let one : a + 1 - a ≡ 1 = omega arith in rw (from_one h a, one)
-
-low_one : (h : Head) (asks : ℕ → Bool) (a : ℕ) → low h asks a 1 ≡ []
-low_one h asks a = rw (from_one h a) (span_none asks a)
-
-some_one : (b : Bool) (a : ℕ) → b ≡ some (cond b (a ∷ []) [])
-some_one true a = refl
-some_one false a = refl
-
--- a station's value is the table's for it alone
-leaf_subtree : (h : Head) (asks : ℕ → Bool) (a : ℕ) → leaf h asks a ≡ subtree h asks a 1
-unfolding leaf
-leaf_subtree h asks a = rw (inside_one h a, high_one h asks a, ← some_one (asks a) a)
-
--- the children's first stations: those of node 2^j + p, with 2^(d+1) stations below it
-twice : (p d : ℕ) → p * 2 ^ suc d ≡ (p + p) * 2 ^ d
-twice p d = ap (λ (k : ℕ). p * k) (two-pow-succ d) ∙ mul-add p (2 ^ d) (2 ^ d) ∙ sym (add-mul p p (2 ^ d))
-
-twice_more : (p d a : ℕ) → a ≡ (p + p) * 2 ^ d → a + 2 ^ d ≡ suc (p + p) * 2 ^ d
-twice_more p d a e = rw e (sym (suc-mul (p + p) (2 ^ d)))
-
-module _ (n : ℕ) (h : Head) (asks : ℕ → Bool) (stations : 1 ≤ n) where
-  abbrev t : List ℕ
-  t = nodes n h asks
-
-  -- a node that is no station's
-  inner : (d j p : ℕ) → n ≡ 2 ^ (j + suc d) → p < 2 ^ j → 2 ^ j + p < n
-  inner d j p e l = omega (arith, pow_mono {i = suc j} {j = j + suc d} (omega arith))
-
-  deeper : (d j : ℕ) → n ≡ 2 ^ (j + suc d) → n ≡ 2 ^ (suc j + d)
-  deeper d j e = let same : j + suc d ≡ suc j + d = omega arith in rw same at e
-
-  -- node 2^j + p has the stations from p × 2^d on below it, 2^d of them, and the table's value for them
-  value_of : (d j p a : ℕ) → n ≡ 2 ^ (j + d) → p < 2 ^ j → a ≡ p * 2 ^ d → get_or t (2 ^ j + p) 0 ≡ subtree h asks a (2 ^ d)
-  value_of zero j p a e l b =
-      let all : j + 0 ≡ j = omega arith in
-      let leaves : n ≡ 2 ^ j = rw all at e in
-      let base : a ≡ p = b ∙ mul-one p in
-      rw (← leaves, base) (Tree.node_leaf n h asks stations p (omega arith) ∙ leaf_subtree h asks p)
-  value_of (suc d) j p a e l b =
-      let u = 2 ^ j + p in
-      let below : u < n = inner d j p e l in
-      let lefts : 2 * u ≡ 2 ^ suc j + (p + p) = omega arith in
-      let rights : 2 * u + 1 ≡ 2 ^ suc j + suc (p + p) = omega arith in
-      let base : a ≡ (p + p) * 2 ^ d = b ∙ twice p d in
-      let left = value_of d (suc j) (p + p) a (deeper d j e) (omega arith) base in
-      let right = value_of d (suc j) (suc (p + p)) (a + 2 ^ d) (deeper d j e) (omega arith) (twice_more p d a base) in
-      Tree.node_joined n h asks stations u (omega (arith, pow_pos j)) below
-      ∙ rw (rights, lefts, left, right, two-pow-succ d) (sym (joins h asks a (2 ^ d) (halves h asks a (2 ^ d))))
-
-  -- the one of a single station
-  only : (a w : ℕ) → first (turn h asks a 1) ≡ Some w → a ≡ w
-  only a w e =
-      let one : turn h asks a 1 ≡ cond (asks a) (a ∷ []) [] ++ [] = rw (high_one h asks a, low_one h asks a) in
-      let f : first (cond (asks a) (a ∷ []) [] ++ []) ≡ Some w = ap first (sym one) ∙ e in
-      Lists.split (asks a)
-      (λ p. let g : Some a ≡ Some w = rw p at f in cc)
-      (λ p. let g : None ≡ Some w = rw p at f in let z : ◌≡◌ {A = ℕ} 0 1 = cc in absurd (omega arith))
-
-  -- from node 2^j + p the descent reaches the first that asks of the stations below it
-  reaches : (d k j p a w : ℕ) → n ≡ 2 ^ (j + d) → p < 2 ^ j → a ≡ p * 2 ^ d → d ≤ k → first (turn h asks a (2 ^ d)) ≡ Some w
-      → descend n t k (2 ^ j + p) ≡ n + w
-  unfolding descend child
-  reaches zero k j p a w e l b f first-is =
-      let all : j + 0 ≡ j = omega arith in
-      let leaves : n ≡ 2 ^ j = rw all at e in
-      let base : a ≡ p = b ∙ mul-one p in
-      let here : p ≡ w = sym base ∙ only a w first-is in
-      rw (← leaves, here) (Tree.descend_stops n t k (n + w) (omega arith))
-  reaches (suc d) zero j p a w e l b f first-is = absurd (omega arith)
-  reaches (suc d) (suc k) j p a w e l b f first-is =
-      let u = 2 ^ j + p in
-      let lefts : 2 * u ≡ 2 ^ suc j + (p + p) = omega arith in
-      let rights : 2 * u + 1 ≡ 2 ^ suc j + suc (p + p) = omega arith in
-      let base : a ≡ (p + p) * 2 ^ d = b ∙ twice p d in
-      let more = twice_more p d a base in
-      let left = value_of d (suc j) (p + p) a (deeper d j e) (omega arith) base in
-      let right = value_of d (suc j) (suc (p + p)) (a + 2 ^ d) (deeper d j e) (omega arith) more in
-      let choice : Bool = goes_right (subtree h asks a (2 ^ d)) (subtree h asks (a + 2 ^ d) (2 ^ d)) in
-      let to : cond choice (first (turn h asks (a + 2 ^ d) (2 ^ d))) (first (turn h asks a (2 ^ d))) ≡ Some w =
-      sym (leads h asks a (2 ^ d) (halves h asks a (2 ^ d))) ∙ (rw (two-pow-succ d) at first-is) in
-      rw (lt-ltb u n (inner d j p e l), rights, lefts, left, right)
-      (Lists.split choice
-      (λ q.
-      let there : 2 ^ suc j + (p + p) + bit choice ≡ 2 ^ suc j + suc (p + p) = omega (arith, ap bit q) in
-      rw there (reaches d k (suc j) (suc (p + p)) (a + 2 ^ d) w (deeper d j e) (omega arith) more (omega arith) (rw q at to)))
-      (λ q.
-      let there : 2 ^ suc j + (p + p) + bit choice ≡ 2 ^ suc j + (p + p) = omega (arith, ap bit q) in
-      rw there (reaches d k (suc j) (p + p) a w (deeper d j e) (omega arith) base (omega arith) (rw q at to))))
+use Rattle.tree.specs.Subtrees.{subtree}
+use Rattle.tree.specs.Subtrees.Laws.Halves.{turn, value_of, reaches, turn_order}
+mod Halves
 
 -- a number is below its power of two
 pub below_power : (k : ℕ) → k < 2 ^ k
 below_power zero = omega arith
 below_power (suc k) = omega (arith, below_power k)
-
--- the whole tree's stations that ask, in its order, are those in the rule's order
-from_start : (n : ℕ) (h : Head) → start h < n → from h 0 n ≡ start h
-from_start n None l = sym RoundRobin.start_none
-from_start n (Some k) l =
-    let below : k < n = omega (arith, RoundRobin.start_at k) in
-    let is : inside (Some k) 0 n ≡ true = is_in k 0 n (omega arith) (omega arith) in
-    rw is (sym (RoundRobin.start_at k))
-
-turn_order : (n : ℕ) (h : Head) (asks : ℕ → Bool) → start h < n → turn h asks 0 n ≡ filter asks (order n h)
-turn_order n h asks l =
-    let s = start h in
-    let upper : 0 + n - s ≡ n - s = omega arith in
-    let lower : s - 0 ≡ s = omega arith in
-    rw (from_start n h l, upper, lower, RoundRobin.order_runs n h) (sym (Lists.filter_append asks (range s (n - s)) (range 0 s)))
 
 -- Table 1 of 000: in a tree of 2^(j + d) stations, the p-th node of level j, which is node 2^j + p, has the 2^d stations from
 -- p × 2^d on below it, and its value is the table's for them
@@ -337,34 +51,34 @@ module _ (n k : ℕ) (h : Head) (asks : ℕ → Bool) (power : n ≡ 2 ^ k) (sta
   first_reached any = by (filter asks (order n h)) refl
     where
       by : (ws : List ℕ) → filter asks (order n h) ≡ ws → (r < n) × (asks r ≡ true) × (count asks (before r (order n h)) ≡ 0)
-      by [] e = absurd (omega (arith, sym (Lists.length_filter asks (order n h)), ap length e))
+      by [] e = absurd (omega (arith, sym (ListsLaws.length_filter asks (order n h)), ap length e))
       by (w ∷ ws) e =
-          let f = Lists.first_left asks (order n h) w ws e in
-          (Tree.reached_station n (nodes n h asks) (omega arith), rw (reached_is w ws e) f.0, rw (reached_is w ws e) f.1)
+          let f = ListsLaws.first_left asks (order n h) w ws e in
+          (TreeLaws.reached_station n (nodes n h asks) (omega arith), rw (reached_is w ws e) f.0, rw (reached_is w ws e) f.1)
 
   -- a station reached asks if its node says so
   asks_there : s0 (get_or (nodes n h asks) (n + r) 0) ≡ asks r
   unfolding leaf
   asks_there =
-      let at : r < n = Tree.reached_station n (nodes n h asks) (omega arith) in
-      ap s0 (Tree.node_leaf n h asks (omega arith) r at) ∙ Tree.s0_value (head_at h r) (asks r)
+      let at : r < n = TreeLaws.reached_station n (nodes n h asks) (omega arith) in
+      ap s0 (TreeLaws.node_leaf n h asks (omega arith) r at) ∙ TreeLaws.s0_value (head_at h r) (asks r)
 
   -- where nobody asks in the order, no station does
   silent : (w : ℕ) → w < n → count asks (order n h) ≡ 0 → asks w ≡ false
   silent w l none =
-      Lists.split (asks w)
-      (λ t. absurd (omega (arith, RoundRobin.before_count n h asks w (omega arith) l t)))
+      ListsLaws.split (asks w)
+      (λ t. absurd (omega (arith, RoundRobinLaws.before_count n h asks w (omega arith) l t)))
       (λ f. f)
 
   -- so the tree grants whom the round-robin rule grants
   pub chosen_granted : chosen n (nodes n h asks) ≡ granted n 1 h asks
   unfolding chosen
   chosen_granted =
-      Lists.split (ltb 0 (count asks (order n h)))
+      ListsLaws.split (ltb 0 (count asks (order n h)))
       (λ t.
       let f = first_reached (ltb-true 0 (count asks (order n h)) t) in
-      rw (asks_there, f.1) (sym (RoundRobin.granted_one n h asks r (omega arith) f.0 f.1 f.2)))
+      rw (asks_there, f.1) (sym (RoundRobinLaws.granted_one n h asks r (omega arith) f.0 f.1 f.2)))
       (λ f.
       let none : count asks (order n h) ≡ 0 = omega (arith, ltb-false 0 (count asks (order n h)) f) in
-      rw (asks_there, silent r (Tree.reached_station n (nodes n h asks) (omega arith)) none)
-      (sym (RoundRobin.granted_none n 1 h asks none)))
+      rw (asks_there, silent r (TreeLaws.reached_station n (nodes n h asks) (omega arith)) none)
+      (sym (RoundRobinLaws.granted_none n 1 h asks none)))

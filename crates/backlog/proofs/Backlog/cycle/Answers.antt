@@ -3,7 +3,7 @@
 use Rattle.std.proofs.Common.{rules, arith, length, ◌≡◌, ◌∙◌, sym, ap}
 use Rattle.arbiter.specs.Answers.{refused}
 use Rattle.arbiter.specs.Questions.{passed}
-use Rattle.backlog.specs.Calls.{Outcome, questions, cycle}
+use Rattle.backlog.specs.Calls.{BacklogEffect, questions, cycle}
 use Rattle.backlog.specs.Calls.Laws.{refused_cycle, lent_passed}
 use Rattle.backlog.proofs.Backlog.cycle.Goals as goal
 
@@ -15,16 +15,16 @@ stays c =
     refused_cycle a.engine a.self.0 a.arrivals.now a.waiting.now a.grants.now a.nodes.now c.in-Err.refusal (search rules)
 
 pub returns-in-Err-clause-value : goal.returns-in-Err-clause-value
-returns-in-Err-clause-value c = c.answer.ensures ∙ ap (λ (o : Outcome). o.answer) (sym (stays c))
+returns-in-Err-clause-value c = c.answer.ensures ∙ ap (λ (o : BacklogEffect). o.answer) (sym (stays c))
 
 pub returns-in-Err-clause-waiting_after : goal.returns-in-Err-clause-waiting_after
-returns-in-Err-clause-waiting_after c = ap (λ (o : Outcome). o.waiting) (sym (stays c))
+returns-in-Err-clause-waiting_after c = ap (λ (o : BacklogEffect). o.waiting) (sym (stays c))
 
 pub returns-in-Err-clause-grants_after : goal.returns-in-Err-clause-grants_after
-returns-in-Err-clause-grants_after c = ap (λ (o : Outcome). o.grants) (sym (stays c))
+returns-in-Err-clause-grants_after c = ap (λ (o : BacklogEffect). o.grants) (sym (stays c))
 
 pub returns-in-Err-clause-nodes_after : goal.returns-in-Err-clause-nodes_after
-returns-in-Err-clause-nodes_after c = ap (λ (o : Outcome). o.nodes) (sym (stays c))
+returns-in-Err-clause-nodes_after c = ap (λ (o : BacklogEffect). o.nodes) (sym (stays c))
 
 pub add-requires-clause-fitting : goal.add-requires-clause-fitting
 add-requires-clause-fitting c =

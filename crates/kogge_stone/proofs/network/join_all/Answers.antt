@@ -7,7 +7,7 @@ use mathlib.Core.List.{List}
 use native.Mathlib.Omega.{arith}
 use lib.ListN.{length}
 use Rattle.rules.specs.KoggeStone.{joined, joined_cuts}
-use Rattle.rules.proofs.KoggeStone.Laws as Network
+use Rattle.rules.proofs.KoggeStone.Laws as KoggeStoneLaws
 use Rattle.rules.proofs.KoggeStone.Laws.{Left}
 use Rattle.kogge_stone.specs.Steps.{Codes}
 use Rattle.kogge_stone.proofs.Codes.{joined_codes}
@@ -22,7 +22,7 @@ as_left e g f = rw (e, g) f
 
 pub loop-distance-init : goal.loop-distance-init
 loop-distance-init c =
-    (omega arith, omega arith, omega arith, c.requires.codes, Network.begin _ _ _ _ (omega arith))
+    (omega arith, omega arith, omega arith, c.requires.codes, KoggeStoneLaws.begin _ _ _ _ (omega arith))
 
 pub join_at-cut-requires-clause-codes : goal.join_at-cut-requires-clause-codes
 join_at-cut-requires-clause-codes c = as_codes _ c.copy_from_slice.ensures.after c.loop-distance.invariant.3
@@ -35,14 +35,14 @@ loop-distance-preserved c =
     let cut = c.join_at-cut.ensures.value ∙ ap (joined_cuts _ l.distance) same in
     let d = c.loop-distance-test.true in (
       omega arith,
-      ap length new ∙ Network.joined_length _ _ _ ∙ l.invariant.1,
+      ap length new ∙ KoggeStoneLaws.joined_length _ _ _ ∙ l.invariant.1,
       ap length same ∙ l.invariant.1,
       as_codes _ new (joined_codes _ _ _ l.invariant.3),
-      as_left new (ap (λ b. l.cut || b) cut) (Network.step _ _ l.distance _ _ _ _ (omega (arith, l.invariant.1)) l.invariant.4),
+      as_left new (ap (λ b. l.cut || b) cut) (KoggeStoneLaws.step _ _ l.distance _ _ _ _ (omega (arith, l.invariant.1)) l.invariant.4),
     )
 
 pub returns : goal.returns
 returns c =
     let l = c.loop-distance in
-    let all = Network.done _ _ l.distance _ _ _ _ (omega (arith, l.invariant.1)) l.invariant.4 in
+    let all = KoggeStoneLaws.done _ _ l.distance _ _ _ _ (omega (arith, l.invariant.1)) l.invariant.4 in
     record { value = all.1; codes_after = all.0 }

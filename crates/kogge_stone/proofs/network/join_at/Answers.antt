@@ -3,9 +3,9 @@
 use Rattle.std.proofs.Common.{◌<◌, ◌-◌, ◌≡◌, ◌∙◌, refl, sym, ap, arith, length, get_or, ext_get_or}
 use Rattle.std.proofs.lemmas.Grind.{common_steps}
 use lib.Count.{ones}
-use Rattle.rules.specs.Lists.Laws as Lists
+use Rattle.rules.specs.Lists.Laws as ListsLaws
 use Rattle.rules.specs.Thermometer.{cuts}
-use Rattle.rules.proofs.KoggeStone.Laws as Network
+use Rattle.rules.proofs.KoggeStone.Laws as KoggeStoneLaws
 use Rattle.rules.proofs.Thermometer.Laws.{code_own}
 use Rattle.rules.proofs.Thermometer.Cuts.{reach_none, reach_more, reach_passes}
 use Rattle.kogge_stone.proofs.Codes.{every_code, joins}
@@ -14,7 +14,7 @@ use Rattle.kogge_stone.proofs.network.join_at.Goals as goal
 pub loop-p-init : goal.loop-p-init
 loop-p-init c =
     let none : c.args.distance - c.args.distance ≡ 0 = omega arith in
-    rw c.requires.codes_value (record { done = λ k u v. sym (Network.joined_near _ _ _ k v u); kept = λ k u. refl; within = omega arith; reaches = rw none (reach_none _) })
+    rw c.requires.codes_value (record { done = λ k u v. sym (KoggeStoneLaws.joined_near _ _ _ k v u); kept = λ k u. refl; within = omega arith; reaches = rw none (reach_none _) })
 
 pub sum-whole-requires-clause-left_value : goal.sum-whole-requires-clause-left_value
 sum-whole-requires-clause-left_value c = every_code (ones c.args.picks.code) c.args.before.now c.requires.codes _
@@ -34,13 +34,13 @@ loop-p-preserved c =
     let same = l.invariant.kept l.p (omega arith) in
     let whole = c.sum-whole.ensures in
     let join = joins a.picks.code _ _ _ a.picks.coded whole in
-    let joins = Network.joined_far m a.distance b l.p here (omega (arith, c)) in
+    let joins = KoggeStoneLaws.joined_far m a.distance b l.p here (omega (arith, c)) in
     record {
       done = λ k u v. grind (arith, common_steps, c.min.ensures, join, joins, same, l.invariant.done k);
       kept = λ k u. grind (arith, common_steps, l.invariant.kept k);
       within = omega (arith, here, c);
       reaches =
-          rw (Lists.any_next (λ p. cuts m (get_or b (p - a.distance) 0) (get_or b p 0)) a.distance l.p (omega (arith, c)))
+          rw (ListsLaws.any_next (λ p. cuts m (get_or b (p - a.distance) 0) (get_or b p 0)) a.distance l.p (omega (arith, c)))
           (reach_more _ l.invariant.reaches (rw same at whole));
     }
 
@@ -53,8 +53,8 @@ returns c =
     record {
       value =
           reach_passes c.loop-p.invariant.reaches (c.from-2.ensures ∙ code_own 8 _ a.picks.coded)
-          ∙ sym (rw (Network.joined_cuts_any m a.distance a.before.now, end) refl);
+          ∙ sym (rw (KoggeStoneLaws.joined_cuts_any m a.distance a.before.now, end) refl);
       codes_after =
-          ext_get_or 0 _ _ (omega (arith, c, long, Network.joined_length m a.distance a.before.now))
+          ext_get_or 0 _ _ (omega (arith, c, long, KoggeStoneLaws.joined_length m a.distance a.before.now))
           (λ k u. c.loop-p.invariant.done k (omega (arith, c)) (omega (arith, c, long)));
     }

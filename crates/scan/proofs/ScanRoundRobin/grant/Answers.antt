@@ -3,7 +3,7 @@
 use Rattle.std.proofs.Common.{length, ◌∙◌, arith, refl}
 use Rattle.rules.proofs.Walk.Laws.{Walked}
 use Rattle.arbiter.specs.Decisions.{requested}
-use Rattle.arbiter.specs.Decisions.Laws as Decisions
+use Rattle.arbiter.specs.Decisions.Laws as DecisionsLaws
 use Rattle.scan.proofs.ScanRoundRobin.grant.Goals as goal
 
 walked : (c : goal.After-decide)
@@ -12,15 +12,15 @@ walked : (c : goal.After-decide)
     Walked (length y.requests.now) y.picks y.head (requested y.requests.now) walk.result.count walk.result.last walk.new.grants
 walked c =
     let y = c.args.cycle.now in
-    Decisions.round _ _ _ _ y.head_bound c.first_station-first.ensures (c.fill.ensures.after (λ _ e. e)) y.grants_len c.walk_run-half.ensures c.walk_run-walk.ensures
+    DecisionsLaws.round _ _ _ _ y.head_bound c.first_station-first.ensures (c.fill.ensures.after (λ _ e. e)) y.grants_len c.walk_run-half.ensures c.walk_run-walk.ensures
 
 pub returns-clause-value : goal.returns-clause-value
 returns-clause-value c =
     let y = c.args.cycle.now in
     let w = walked c in
     c.decide.ensures
-    ∙ Decisions.walked _ _ _ _ y.picked (omega (arith, y.head_bound)) w
-    (c.pending-more.ensures ∙ Decisions.pending_bytes _ _ _ y.requests.now (omega (arith, y.head_bound)) refl y.bits w.counted w.bytes)
+    ∙ DecisionsLaws.walked _ _ _ _ y.picked (omega (arith, y.head_bound)) w
+    (c.pending-more.ensures ∙ DecisionsLaws.pending_bytes _ _ _ y.requests.now (omega (arith, y.head_bound)) refl y.bits w.counted w.bytes)
 
 pub returns-clause-grants_after : goal.returns-clause-grants_after
 returns-clause-grants_after c = (walked c).bytes

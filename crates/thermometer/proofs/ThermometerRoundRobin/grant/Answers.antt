@@ -7,7 +7,7 @@ use Rattle.rules.proofs.Walk.Laws.{Walked}
 use Rattle.std.specs.Prelude.{None}
 use Rattle.rules.proofs.Thermometer.Laws.{zero_ones, zero_is_code}
 use Rattle.arbiter.specs.Decisions.{requested, counted}
-use Rattle.arbiter.specs.Decisions.Laws as Decisions
+use Rattle.arbiter.specs.Decisions.Laws as DecisionsLaws
 use Rattle.thermometer.proofs.Runs.Laws.{hands_code, to_counts}
 use mir.Syntax.{Args, fn, fn₀}
 use Rattle.arbiter.specs.Trace.{trace, end, calls, leaves}
@@ -52,7 +52,7 @@ walked : (c : goal.After-decide)
     Walked (length y.requests.now) y.picks y.head (requested y.requests.now) (ones walk.result.code) walk.result.last walk.new.grants
 walked c =
     let y = c.args.cycle.now in
-    Decisions.round _ _ _ _ y.head_bound c.first_station-first.ensures (c.fill.ensures.after (λ _ e. e)) y.grants_len (high c) (low c)
+    DecisionsLaws.round _ _ _ _ y.head_bound c.first_station-first.ensures (c.fill.ensures.after (λ _ e. e)) y.grants_len (high c) (low c)
 
 pub returns-clause-value : goal.returns-clause-value
 returns-clause-value c =
@@ -60,12 +60,12 @@ returns-clause-value c =
     let n = length y.requests.now in
     let walk = c.count_run-walk in
     let over =
-    Decisions.over n y.picks y.head (requested y.requests.now) y.head_bound c.first_station-first.ensures (c.fill.ensures.after (λ _ e. e)) y.grants_len (high c) (low c)
+    DecisionsLaws.over n y.picks y.head (requested y.requests.now) y.head_bound c.first_station-first.ensures (c.fill.ensures.after (λ _ e. e)) y.grants_len (high c) (low c)
     (rw zero_ones at c.count_run-half.ensures.more)
     walk.ensures.more in
     c.decide.ensures
     ∙ ap (λ x. counted n y.head x walk.result.last walk.result.more) c.count-count.ensures
-    ∙ Decisions.walked _ _ _ _ y.picked (omega (arith, y.head_bound)) (walked c) over
+    ∙ DecisionsLaws.walked _ _ _ _ y.picked (omega (arith, y.head_bound)) (walked c) over
 
 pub returns-clause-grants_after : goal.returns-clause-grants_after
 returns-clause-grants_after c = (walked c).bytes

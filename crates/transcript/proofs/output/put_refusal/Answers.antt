@@ -4,11 +4,11 @@
 use Rattle.std.proofs.Common.{ap}
 use Rattle.text.specs.Characters.{decimal}
 use Rattle.text.specs.Output.Laws.{written_then, same_written}
-use Rattle.transcript.specs.Cycles.{refusal}
+use Rattle.transcript.specs.Cycles.{refusal_line}
 use Rattle.transcript.proofs.output.put_refusal.Goals as goal
 
 pub returns : goal.returns
-unfolding refusal
+unfolding refusal_line
 returns c =
     written_then c.put_number.ensures
     (written_then c.put_all.ensures

@@ -23,7 +23,7 @@ returns g c =
     let requests = a.requests.now in
     let former = a.grants.now in
     let d = decision s.width s.picks s.head (asking s requests) in
-    let both = answered_writes (questions s requests (length former)) s d (granting s requests) former in
+    let both = answered_writes (questions s.width s.picks s.head requests (length former)) s d (granting s requests) former in
     record {
       value = c.answer.ensures ∙ rw (c.arbitrate-decided.ensures.value, c.state-s.ensures) both.0;
       grants_after = c.arbitrate-decided.ensures.grants_after ∙ rw c.state-s.ensures both.1;

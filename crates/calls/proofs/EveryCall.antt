@@ -12,36 +12,36 @@ use borrow.Author.Tests.{ne_eqb}
 use Rattle.std.specs.Prelude.{Some}
 use Rattle.std.specs.List.{list_any}
 use Rattle.rules.specs.Lists.{range, count}
-use Rattle.rules.specs.Lists.Laws as Lists
-use Rattle.rules.proofs.Pending.Laws as Pending
+use Rattle.rules.specs.Lists.Laws as ListsLaws
+use Rattle.rules.proofs.Pending.Laws as PendingLaws
 use Rattle.rules.specs.Packing.{pack, unpack}
-use Rattle.rules.specs.RoundRobin as Rule
-use Rattle.rules.proofs.RoundRobin.Laws as RuleLaws
+use Rattle.rules.specs.RoundRobin as RoundRobinRule
+use Rattle.rules.proofs.RoundRobin.Laws as RoundRobinLaws
 use Rattle.rules.specs.Thermometer.{is_code}
 use Rattle.rules.specs.Bus as BusRule
-use Rattle.rules.proofs.Bus.Laws as BusRuleLaws
+use Rattle.rules.proofs.Bus.Laws as BusLaws
 use Rattle.arbiter.specs.declared.Answer.{Answer}
 use Rattle.arbiter.specs.declared.State.{State}
 use Rattle.arbiter.specs.declared.refusal.Refusal.{Refusal}
 use Rattle.arbiter.specs.declared.refusal.Refusal.TheVariants.{Width, TreeWidth, Picks, HeadRange, ReadLength, WriteLength, NodesLength, NotABit, Acknowledge, SecondOne, FirstLine, InputLength, Code, UnusedBit, WaitingLength, Overflow}
 use Rattle.arbiter.specs.Questions.{Verdict, refuse_unless, ◌then◌}
 use Rattle.arbiter.specs.Answers as Answers
-use Rattle.arbiter.specs.Answers.{Outcome, moved, served, refused, if_passed, number, place, number_of, place_of}
+use Rattle.arbiter.specs.Answers.{Effect, moved, served, refused, if_passed, number, place, number_of, place_of}
 use Rattle.arbiter.specs.Refusals as Refusals
 use Rattle.arbiter.specs.Answers.Laws.{refusal_number, writes_refused}
-use Rattle.arbiter.specs.Cycle as RoundRobin
-use Rattle.packed_scan.specs.Calls as PackedScan
+use Rattle.arbiter.specs.Cycle as RoundRobinCalls
+use Rattle.packed_scan.specs.Calls as PackedCalls
 use Rattle.packed_scan.proofs.AsScan.{served_unpacked}
 use Rattle.thermometer.specs.Adder as Adder
 use Rattle.thermometer.specs.declared.adder.Sum.{Sum}
-use Rattle.token_bus.specs.Calls as Bus
-use Rattle.token_bus.specs.Calls.Laws as BusLaws
+use Rattle.token_bus.specs.Calls as BusCalls
+use Rattle.token_bus.specs.Calls.Laws as BusCallsLaws
 use Rattle.engines.specs.declared.Engine.{Engine}
 use Rattle.engines.specs.declared.Engine.TheVariants.{Scan}
 use Rattle.engines.specs.Calls.Laws.{Served, engine_served, engine_refused}
 use Rattle.backlog.specs.Calls.{arrived, requests}
 use Rattle.backlog.specs.Calls.Laws.{backlog_served, backlog_refused}
-use Rattle.calls.specs.Answers.{Call, Made, engine_cycle, bus_cycle, packed_cycle, backlog_cycle, engine_opening, bus_opening, packed_opening, cycle, image_read, image_write, snapshot_read, snapshot_write, ran, unwriting, writing, made, HeadAfter, GrantsCounted, left_asking, MorePending, RefusedAsGiven, Placed, PlaceZero, AdderAnswers}
+use Rattle.calls.specs.EveryCall.{Call, Made, engine_cycle, bus_cycle, packed_cycle, backlog_cycle, engine_opening, bus_opening, packed_opening, cycle, image_read, image_write, snapshot_read, snapshot_write, ran, unwriting, writing, made, HeadAfter, GrantsCounted, left_asking, MorePending, RefusedAsGiven, Placed, PlaceZero, AdderAnswers}
 
 -- how many bytes are 1
 abbrev ones : List ℕ → ℕ
@@ -68,7 +68,7 @@ come_to r next passes keeps = of_outcome r.answer.outcome refl
 
 -- where nobody asks, nobody is left asking
 none_asking : (grants : List ℕ) (n : ℕ) → list_any (λ w. eqb (get_or {A = ℕ} [] w 0) 1 && eqb (get_or grants w 0) 0) (range 0 n) ≡ false
-none_asking grants n = Lists.any_none _ 0 n (λ w _ _. refl)
+none_asking grants n = ListsLaws.any_none _ 0 n (λ w _ _. refl)
 
 -- one that writes no buffer
 asked_unwriting : (v : Verdict) (t s : State) → Asked (unwriting (if_passed v (served t) (λ e. refused e s)) s)
@@ -83,28 +83,28 @@ asked_writing (Err e) s t target former = asked_refused e refl refl
 
 -- the state after a served cycle by the round-robin rule, and after one by the bus's
 abbrev after : State → List ℕ → State
-after s requests = moved s (Rule.next s.width s.picks s.head (RoundRobin.asking s requests))
+after s requests = moved s (RoundRobinRule.next s.width s.picks s.head (RoundRobinCalls.asking s requests))
 
 abbrev bus_after : State → List ℕ → ℕ → State
 bus_after s requests byte =
-    moved s (Some (BusRule.next s.width (Bus.token s) (BusRule.acknowledged byte) (RoundRobin.asking s requests)))
+    moved s (Some (BusRule.next s.width (BusCalls.token s) (BusRule.acknowledged byte) (RoundRobinCalls.asking s requests)))
 
 -- what it answers is told by its bytes: its count is that of the grants that are 1, and more are pending if somebody is left asking
 counted : (s : State) (r : Made) (requests : List ℕ) → r.given ≡ s → r.requests ≡ requests → Served s requests r.answer r.grants
     → r.answer ≡ says r (after s requests)
 counted s r requests e f t =
-    let station : Rule.start s.head ≤ s.width = omega (arith, t.allows.station) in
-    let asks = RoundRobin.asking s requests in
-    let is = RuleLaws.grants_count s.width s.picks s.head asks station in
-    let left = Pending.more_told s.width s.picks s.head asks station in
+    let station : RoundRobinRule.start s.head ≤ s.width = omega (arith, t.allows.station) in
+    let asks = RoundRobinCalls.asking s requests in
+    let is = RoundRobinLaws.grants_count s.width s.picks s.head asks station in
+    let left = PendingLaws.more_told s.width s.picks s.head asks station in
     rw (e, f, t.granted, is, ← left) t.answers
 
-bus_counted : (s : State) (r : Made) (requests : List ℕ) (byte : ℕ) (o : Outcome) → r.given ≡ s → r.requests ≡ requests → r.answer ≡ o.answer
-    → r.grants ≡ o.written → BusLaws.Served s requests byte o → r.answer ≡ says r (bus_after s requests byte)
+bus_counted : (s : State) (r : Made) (requests : List ℕ) (byte : ℕ) (o : Effect) → r.given ≡ s → r.requests ≡ requests → r.answer ≡ o.answer
+    → r.grants ≡ o.written → BusCallsLaws.Served s requests byte o → r.answer ≡ says r (bus_after s requests byte)
 bus_counted s r requests byte o e f g h t =
-    let asks = RoundRobin.asking s requests in
-    let is = BusRuleLaws.grants_count s.width (Bus.token s) asks t.token in
-    let left = BusRuleLaws.more_told s.width (Bus.token s) asks t.token in
+    let asks = RoundRobinCalls.asking s requests in
+    let is = BusLaws.grants_count s.width (BusCalls.token s) asks t.token in
+    let left = BusLaws.more_told s.width (BusCalls.token s) asks t.token in
     rw (e, f, g, h, t.grants, is, ← left) t.answers
 
 -- the cycles of the engines of the round-robin rule, and of the scan among them
@@ -121,29 +121,29 @@ asked_bus : (s : State) (requests grants : List ℕ) (byte : ℕ) → Asked (ran
 asked_bus s requests grants byte =
     come_to (ran (bus_cycle s requests grants byte)) (bus_after s requests byte)
     (λ z.
-    bus_counted s (ran (bus_cycle s requests grants byte)) requests byte (Bus.cycle s requests grants byte) refl refl refl refl
-    (BusLaws.cycle_served s requests grants byte z))
-    (λ n. let kept = BusLaws.cycle_refused s requests grants byte n in (kept.0, rw kept.1, kept.2))
+    bus_counted s (ran (bus_cycle s requests grants byte)) requests byte (BusCalls.cycle s requests grants byte) refl refl refl refl
+    (BusCallsLaws.cycle_served s requests grants byte z))
+    (λ n. let kept = BusCallsLaws.cycle_refused s requests grants byte n in (kept.0, rw kept.1, kept.2))
 
 -- the packed scan: what it serves, the plain scan serves on the unpacked wires
 module _ (s : State) (requests grants : List ℕ) where
   abbrev wires : List ℕ
   wires = unpack s.width requests
 
-  abbrev packed_outcome : Outcome
-  packed_outcome = PackedScan.cycle s requests grants
+  abbrev packed_outcome : Effect
+  packed_outcome = PackedCalls.cycle s requests grants
 
   as_scan : number packed_outcome.answer ≡ 0 → Served s wires packed_outcome.answer (unpack s.width packed_outcome.written)
   as_scan z =
       let bytes : List ℕ = replicate s.width 0 in
       let same = served_unpacked s requests grants bytes z (length-replicate s.width 0) in
-      rw same at (engine_served Scan s wires bytes [] (ap (λ (o : Outcome). number o.answer) same ∙ z))
+      rw same at (engine_served Scan s wires bytes [] (ap (λ (o : Effect). number o.answer) same ∙ z))
 
   packed_kept : (number packed_outcome.answer ≡ 0 → ⊥)
       → (packed_outcome.answer.state ≡ s) × (packed_outcome.written ≡ grants) × (packed_outcome.answer.more ≡ false)
   packed_kept n =
-      let v = PackedScan.questions s.width s.picks s.head requests (length grants) in
-      writes_refused v s (RoundRobin.answer s wires) (pack (RoundRobin.granting s wires)) grants refl n
+      let v = PackedCalls.questions s.width s.picks s.head requests (length grants) in
+      writes_refused v s (RoundRobinCalls.answer s wires) (pack (RoundRobinCalls.granting s wires)) grants refl n
 
   asked_packed : Asked (ran (packed_cycle s requests grants))
   asked_packed =
@@ -230,16 +230,16 @@ place_zero c = placed (made c).answer
 rule_head : (s : State) (requests : List ℕ) (a : Answer) (bytes : List ℕ) → Served s requests a bytes
     → (k : ℕ) × (k < s.width) × (a.state ≡ moved s (Some k))
 rule_head s requests a bytes r =
-    let k = RuleLaws.next_head s.width s.picks s.head (RoundRobin.asking s requests) r.allows.station in
+    let k = RoundRobinLaws.next_head s.width s.picks s.head (RoundRobinCalls.asking s requests) r.allows.station in
     (k.0, k.1, ap (λ (a : Answer). a.state) r.answers ∙ ap (moved s) k.2)
 
 pub head_after : HeadAfter
 head_after (engine_cycle e s requests grants nodes) z = rule_head s requests _ _ (engine_served e s requests grants nodes z)
 head_after (bus_cycle s requests grants byte) z =
-    let r = BusLaws.cycle_served s requests grants byte z in
-    let asks = RoundRobin.asking s requests in (
-      BusRule.next s.width (Bus.token s) (BusRule.acknowledged byte) asks,
-      BusRuleLaws.next_below s.width (Bus.token s) (BusRule.acknowledged byte) asks r.token,
+    let r = BusCallsLaws.cycle_served s requests grants byte z in
+    let asks = RoundRobinCalls.asking s requests in (
+      BusRule.next s.width (BusCalls.token s) (BusRule.acknowledged byte) asks,
+      BusLaws.next_below s.width (BusCalls.token s) (BusRule.acknowledged byte) asks r.token,
       ap (λ (a : Answer). a.state) r.answers,
     )
 head_after (packed_cycle s requests grants) z = rule_head s (unpack s.width requests) _ _ (as_scan s requests grants z)

@@ -10,15 +10,16 @@ use Rattle.rules.specs.Packing.{unpack}
 use Rattle.arbiter.specs.declared.Answer.{Answer}
 use Rattle.arbiter.specs.declared.State.{State}
 use Rattle.arbiter.specs.Answers as Answers
-use Rattle.arbiter.specs.Answers.{Outcome, moved, nothing, number, place, number_of, place_of}
-use Rattle.one_hot.specs.Calls as OneHot
-use Rattle.packed_scan.specs.Calls as PackedScan
-use Rattle.snapshot.specs.Calls as Snapshot
+use Rattle.arbiter.specs.Answers.{Effect, moved, nothing, number, place, number_of, place_of}
+use Rattle.arbiter.specs.Places.{one_at}
+use Rattle.one_hot.specs.Calls as OneHotCalls
+use Rattle.packed_scan.specs.Calls as PackedCalls
+use Rattle.snapshot.specs.Calls as SnapshotCalls
 use Rattle.thermometer.specs.Adder as Adder
-use Rattle.token_bus.specs.Calls as Bus
+use Rattle.token_bus.specs.Calls as BusCalls
 use Rattle.engines.specs.declared.Engine.{Engine}
-use Rattle.engines.specs.Calls as Engines
-use Rattle.backlog.specs.Calls as Backlog
+use Rattle.engines.specs.Calls as EngineCalls
+use Rattle.backlog.specs.Calls as BacklogCalls
 
 -- a cycle: a state, the requests, and the bytes that the grant buffer holds before. An engine is lent a node buffer too, which
 -- only the tree looks at; the bus gets an acknowledge byte; the packed scan's two buffers are packed; the backlog gets arrivals and
@@ -54,7 +55,7 @@ pub record Made : Type 0 where
 -- a cycle
 abbrev pub ran : Cycle → Made
 ran (engine_cycle e s requests grants nodes) =
-    let o = Engines.cycle e s requests grants nodes in
+    let o = EngineCalls.cycle e s requests grants nodes in
     record {
       answer = o.answer;
       given = s;
@@ -64,10 +65,10 @@ ran (engine_cycle e s requests grants nodes) =
       left = o.grants ∷ o.nodes ∷ [];
     }
 ran (bus_cycle s requests grants byte) =
-    let o = Bus.cycle s requests grants byte in
+    let o = BusCalls.cycle s requests grants byte in
     record { answer = o.answer; given = s; requests = requests; grants = o.written; lent = grants ∷ []; left = o.written ∷ [] }
 ran (packed_cycle s requests grants) =
-    let o = PackedScan.cycle s requests grants in
+    let o = PackedCalls.cycle s requests grants in
     record {
       answer = o.answer;
       given = s;
@@ -77,11 +78,11 @@ ran (packed_cycle s requests grants) =
       left = o.written ∷ [];
     }
 ran (backlog_cycle e s arrivals waiting grants nodes) =
-    let o = Backlog.cycle e s arrivals waiting grants nodes in
+    let o = BacklogCalls.cycle e s arrivals waiting grants nodes in
     record {
       answer = o.answer;
       given = s;
-      requests = Backlog.requests (Backlog.arrived waiting arrivals);
+      requests = BacklogCalls.requests (BacklogCalls.arrived waiting arrivals);
       grants = o.grants;
       lent = waiting ∷ grants ∷ nodes ∷ [];
       left = o.waiting ∷ o.grants ∷ o.nodes ∷ [];
@@ -92,19 +93,19 @@ abbrev pub unwriting : Answer → State → Made
 unwriting a s = record { answer = a; given = s; requests = []; grants = []; lent = []; left = [] }
 
 -- a call that writes one and is no cycle
-abbrev pub writing : Outcome → State → List ℕ → Made
+abbrev pub writing : Effect → State → List ℕ → Made
 writing o s former = record { answer = o.answer; given = s; requests = []; grants = []; lent = former ∷ []; left = o.written ∷ [] }
 
 -- any call
 abbrev pub made : Call → Made
-made (engine_opening e n m h) = unwriting (Engines.opening e n m h) nothing
-made (bus_opening n m h) = unwriting (Bus.opening n m h) nothing
-made (packed_opening n m h) = unwriting (PackedScan.opening n m h) nothing
+made (engine_opening e n m h) = unwriting (EngineCalls.opening e n m h) nothing
+made (bus_opening n m h) = unwriting (BusCalls.opening n m h) nothing
+made (packed_opening n m h) = unwriting (PackedCalls.opening n m h) nothing
 made (cycle c) = ran c
-made (image_read s bytes) = unwriting (OneHot.read s bytes) s
-made (image_write s former) = writing (OneHot.write s former) s former
-made (snapshot_read bytes) = unwriting (Snapshot.read bytes) nothing
-made (snapshot_write s former) = writing (Snapshot.write s former) s former
+made (image_read s bytes) = unwriting (OneHotCalls.read s bytes) s
+made (image_write s former) = writing (OneHotCalls.write s former) s former
+made (snapshot_read bytes) = unwriting (SnapshotCalls.read bytes) nothing
+made (snapshot_write s former) = writing (SnapshotCalls.write s former) s former
 
 -- "So no served cycle ends without a head": it returns the state that it was given with a station for a head
 abbrev pub HeadAfter : Type 0
@@ -118,7 +119,7 @@ GrantsCounted = (c : Call) → let r = made c in number r.answer ≡ 0 → Answe
 
 -- some station asks, by its request, and is not granted, by its grant
 abbrev pub left_asking : Made → Bool
-left_asking r = list_any (λ w. eqb (get_or r.requests w 0) 1 && eqb (get_or r.grants w 0) 0) (range 0 r.given.width)
+left_asking r = list_any (λ w. one_at r.requests w && eqb (get_or r.grants w 0) 0) (range 0 r.given.width)
 
 -- 02, N5: "each cycle's answer says yes exactly if some asking station was not granted"; "a refusal says no", and so does a call that
 -- is no cycle
@@ -133,8 +134,9 @@ RefusedAsGiven =
 
 -- "a place (0 except for 8 and 10)"; 02, N2: "14, with the byte's place"; 02, N6: "16, with the lowest such station"
 abbrev pub Placed : ℕ → ℕ → Type 0
-Placed number place = (number ≡ 8 → ⊥) → (number ≡ 10 → ⊥) → (number ≡ 14 → ⊥) → (number ≡ 16 → ⊥) → place ≡ 0
+Placed k at = (k ≡ 8 → ⊥) → (k ≡ 10 → ⊥) → (k ≡ 14 → ⊥) → (k ≡ 16 → ⊥) → at ≡ 0
 
+-- so it is of every call
 abbrev pub PlaceZero : Type 0
 PlaceZero = (c : Call) → let r = made c in Placed (number r.answer) (place r.answer)
 

@@ -1,0 +1,134 @@
+// Cycles.
+use crate::{granted, refused, state};
+use arbiter::engine::RoundRobin;
+use backlog::Backlog;
+use engines::{Dispatch, Engine};
+use kogge_stone::KoggeStone;
+use packed_scan::PackedScan;
+use scan::Scan;
+use std::test::Fail;
+use thermometer::Thermometer;
+use token_bus::TokenBus;
+use tree::Tree;
+
+#[test]
+fn scan_grants(rt: HostRuntime) -> Result<(), Fail> {
+    let mut grants = [7; 4];
+    let scan = Scan(state(4, 2, Some(3)));
+    assert!(rt; scan.cycle(&[1, 1, 1, 1], &mut grants) == granted(2, state(4, 2, Some(1)), true));
+    assert!(rt; grants == [1, 0, 0, 1]);
+    assert!(rt; scan.cycle(&[1, 0, 0, 1], &mut grants) == granted(2, state(4, 2, Some(1)), false));
+    assert!(rt; grants == [1, 0, 0, 1]);
+    Ok(())
+}
+
+#[test]
+fn tree_grants(rt: HostRuntime) -> Result<(), Fail> {
+    let mut grants = [7; 4];
+    let mut nodes = [7; 8];
+    let tree = Tree(state(4, 1, Some(2)));
+    let answer = tree.cycle(&[1, 1, 0, 0], &mut grants, &mut nodes);
+    assert!(rt; answer == granted(1, state(4, 1, Some(1)), true));
+    assert!(rt; grants == [1, 0, 0, 0]);
+    assert!(rt; nodes == [0, 2, 1, 2, 1, 1, 2, 0]);
+    Ok(())
+}
+
+#[test]
+fn counting_arbiters_grant(rt: HostRuntime) -> Result<(), Fail> {
+    let mut grants = [7; 4];
+    let s = state(4, 2, Some(2));
+    let expected = granted(2, state(4, 2, Some(1)), true);
+    assert!(rt; Thermometer(s).cycle(&[1, 1, 0, 1], &mut grants) == expected);
+    assert!(rt; grants == [1, 0, 0, 1]);
+    grants = [7; 4];
+    assert!(rt; KoggeStone(s).cycle(&[1, 1, 0, 1], &mut grants) == expected);
+    assert!(rt; grants == [1, 0, 0, 1]);
+    Ok(())
+}
+
+#[test]
+fn bus_grants(rt: HostRuntime) -> Result<(), Fail> {
+    let mut grants = [7; 4];
+    let bus = TokenBus(state(4, 1, Some(2)));
+    let answer = bus.cycle(&[1, 1, 0, 0], &mut grants, 1);
+    assert!(rt; answer == granted(1, state(4, 1, Some(3)), true));
+    assert!(rt; grants == [1, 0, 0, 0]);
+    let answer = bus.cycle(&[1, 1, 0, 0], &mut grants, 0);
+    assert!(rt; answer == granted(1, state(4, 1, Some(2)), true));
+    Ok(())
+}
+
+#[test]
+fn packed_scan_grants(rt: HostRuntime) -> Result<(), Fail> {
+    let mut grants = [7; 2];
+    let scan = PackedScan(state(11, 1, Some(8)));
+    assert!(rt; scan.cycle(&[9, 0], &mut grants) == granted(1, state(11, 1, Some(1)), true));
+    assert!(rt; grants == [1, 0]);
+    assert!(rt; refused(scan.cycle(&[9, 8], &mut grants).outcome) == (14, 1));
+    assert!(rt; grants == [1, 0]);
+    Ok(())
+}
+
+#[test]
+fn dispatcher_grants(rt: HostRuntime) -> Result<(), Fail> {
+    let mut nodes = [7; 8];
+    for engine in [
+        Engine::Scan,
+        Engine::Thermometer,
+        Engine::KoggeStone,
+        Engine::Tree,
+    ] {
+        let mut grants = [7; 4];
+        let answer = Dispatch(state(4, 1, Some(2))).cycle(
+            engine,
+            &[1, 1, 0, 0],
+            &mut grants,
+            &mut nodes,
+        );
+        assert!(rt; answer == granted(1, state(4, 1, Some(1)), true));
+        assert!(rt; grants == [1, 0, 0, 0]);
+        if engine != Engine::Tree {
+            assert!(rt; nodes == [7; 8]);
+        }
+    }
+    assert!(rt; nodes == [0, 2, 1, 2, 1, 1, 2, 0]);
+    Ok(())
+}
+
+#[test]
+fn backlog_grants(rt: HostRuntime) -> Result<(), Fail> {
+    let mut waiting = [3, 0, 0, 0];
+    let mut grants = [7; 4];
+    let backlog = Backlog(state(4, 1, Some(2)));
+    let answer = backlog.cycle(
+        Engine::Scan,
+        &[0, 1, 0, 0],
+        &mut waiting,
+        &mut grants,
+        &mut [],
+    );
+    assert!(rt; answer == granted(1, state(4, 1, Some(1)), true));
+    assert!(rt; grants == [1, 0, 0, 0]);
+    assert!(rt; waiting == [2, 1, 0, 0]);
+    waiting = [0, u32::MAX, 0, 0];
+    let answer = backlog.cycle(
+        Engine::Scan,
+        &[0, 0, 0, 0],
+        &mut waiting,
+        &mut grants,
+        &mut [],
+    );
+    assert!(rt; answer.outcome == Ok(1));
+    waiting = [0, u32::MAX, 0, 0];
+    let answer = backlog.cycle(
+        Engine::Scan,
+        &[0, 1, 0, 0],
+        &mut waiting,
+        &mut grants,
+        &mut [],
+    );
+    assert!(rt; refused(answer.outcome) == (16, 1));
+    assert!(rt; waiting == [0, u32::MAX, 0, 0]);
+    Ok(())
+}

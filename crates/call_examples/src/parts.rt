@@ -1,0 +1,92 @@
+// What the engines are made of, and the adder.
+use crate::{granted, refused, served, state};
+use arbiter::engine::ServedCycle;
+use arbiter::refusal::Refusal;
+use arbiter::search::{first_nonzero, first_one, highest};
+use arbiter::{Answer, State, decide, first_station, headed, idle, past, question};
+use std::test::Fail;
+use thermometer::adder::{self, Picks, Sum};
+
+#[test]
+fn adds(rt: HostRuntime) -> Result<(), Fail> {
+    let full = Sum {
+        code: 0b11,
+        cut: false,
+    };
+    assert!(rt; adder::add(2, 0b01, 0b01) == Ok(full));
+    assert!(rt; adder::add(2, 0b11, 0b01) == Ok(Sum { cut: true, ..full }));
+    assert!(rt; refused(adder::add(2, 0b10, 0b01)) == (13, 0));
+    assert!(rt; adder::code(3) == 0b111);
+    assert!(rt; adder::count(0b111) == 3);
+    assert!(rt; Picks::new(3).code == 0b111);
+    Ok(())
+}
+
+#[test]
+fn answers(rt: HostRuntime) -> Result<(), Fail> {
+    let s = state(4, 2, None);
+    assert!(rt; Answer::opened(Err(Refusal::Picks)).state == State::default());
+    assert!(rt; s.answer(Ok(headed(Some(1)))) == served(state(4, 2, Some(1))));
+    assert!(rt; (Refusal::NotABit(2).number(), Refusal::NotABit(2).place()) == (8, 2));
+    assert!(rt; (Refusal::Picks.number(), Refusal::Picks.place()) == (3, 0));
+    Ok(())
+}
+
+#[test]
+fn decides(rt: HostRuntime) -> Result<(), Fail> {
+    let s = state(4, 2, Some(2));
+    assert!(rt; s.answer(Ok(idle(4, Some(1)))) == served(state(4, 2, Some(1))));
+    assert!(rt; s.answer(Ok(idle(4, None))) == served(state(4, 2, Some(3))));
+    let decision = decide(4, Some(2), 2, Some(3), true);
+    assert!(rt; s.answer(Ok(decision)) == granted(2, state(4, 2, Some(0)), true));
+    assert!(rt; (past(4, 2), past(4, 3), past(4, 9)) == (3, 0, 0));
+    assert!(rt; (first_station(Some(2)), first_station(None)) == (2, 0));
+    Ok(())
+}
+
+#[test]
+fn pends(rt: HostRuntime) -> Result<(), Fail> {
+    let cycle = ServedCycle {
+        picks: 1,
+        head: None,
+        requests: &[1, 1],
+        grants: &mut [1, 0],
+    };
+    assert!(rt; cycle.pending(1) == true);
+    assert!(rt; cycle.pending(0) == false);
+    Ok(())
+}
+
+#[test]
+fn searches(rt: HostRuntime) -> Result<(), Fail> {
+    assert!(rt; first_one(1, &[1, 0, 1]) == Some(2));
+    assert!(rt; first_nonzero(1, &[1, 0, 7]) == Some(2));
+    assert!(rt; highest(&[0, 1, 7, 0]) == 7);
+    Ok(())
+}
+
+#[test]
+fn asks_one(rt: HostRuntime) -> Result<(), Fail> {
+    assert!(rt; question::refuse_unless(false, Refusal::Code) == Err(Refusal::Code));
+    assert!(rt; question::width(1024) == Ok(()));
+    assert!(rt; (refused(question::width(0)), refused(question::width(1025))) == ((1, 0), (1, 0)));
+    assert!(rt; (question::picks(4, 4), refused(question::picks(4, 5))) == (Ok(()), (3, 0)));
+    assert!(rt; (question::one_pick(1), refused(question::one_pick(2))) == (Ok(()), (3, 0)));
+    assert!(rt; (question::head(4, None), question::head(4, Some(3))) == (Ok(()), Ok(())));
+    assert!(rt; refused(question::head(4, Some(4))) == (4, 0));
+    assert!(rt; refused(question::read_length(4, 5)) == (5, 0));
+    assert!(rt; refused(question::write_length(4, 3)) == (6, 0));
+    Ok(())
+}
+
+#[test]
+fn asks_several(rt: HostRuntime) -> Result<(), Fail> {
+    assert!(rt; refused(question::bits(2, &[7, 0, 1, 2])) == (8, 3));
+    assert!(rt; question::read(&[0, 1]) == Ok(1));
+    assert!(rt; refused(question::read(&[0, 2])) == (8, 1));
+    assert!(rt; refused(question::state(0, 9, None)) == (1, 0));
+    assert!(rt; refused(question::write(4, 2, None, 6, 5)) == (6, 0));
+    assert!(rt; refused(question::cycle(2, &[0, 2], 3)) == (6, 0));
+    assert!(rt; refused(question::cycle(2, &[0, 2], 2)) == (8, 1));
+    Ok(())
+}
