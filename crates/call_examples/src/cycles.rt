@@ -111,24 +111,25 @@ fn backlog_grants(rt: HostRuntime) -> Result<(), Fail> {
     assert!(rt; answer == granted(1, state(4, 1, Some(1)), true));
     assert!(rt; grants == [1, 0, 0, 0]);
     assert!(rt; waiting == [2, 1, 0, 0]);
-    waiting = [0, u32::MAX, 0, 0];
-    let answer = backlog.cycle(
-        Engine::Scan,
-        &[0, 0, 0, 0],
-        &mut waiting,
-        &mut grants,
-        &mut [],
-    );
-    assert!(rt; answer.outcome == Ok(1));
-    waiting = [0, u32::MAX, 0, 0];
-    let answer = backlog.cycle(
-        Engine::Scan,
-        &[0, 1, 0, 0],
-        &mut waiting,
-        &mut grants,
-        &mut [],
-    );
-    assert!(rt; refused(answer.outcome) == (16, 1));
-    assert!(rt; waiting == [0, u32::MAX, 0, 0]);
+    Ok(())
+}
+
+// At the most messages: no arrival, and one.
+#[test]
+fn backlog_overflows(rt: HostRuntime) -> Result<(), Fail> {
+    for (arrival, refusal, left) in [(0, (0, 0), u32::MAX - 1), (1, (16, 1), u32::MAX)] {
+        let mut waiting = [0, u32::MAX, 0, 0];
+        let mut grants = [7; 4];
+        let backlog = Backlog(state(4, 1, Some(2)));
+        let answer = backlog.cycle(
+            Engine::Scan,
+            &[0, arrival, 0, 0],
+            &mut waiting,
+            &mut grants,
+            &mut [],
+        );
+        assert!(rt; refused(answer.outcome) == refusal);
+        assert!(rt; waiting == [0, left, 0, 0]);
+    }
     Ok(())
 }
