@@ -11,7 +11,7 @@ SOURCES = [f for f in glob.glob("crates/**/*", recursive=True) if re.search(r"\.
 EDITS = {f.split("/")[1] + "/" + f.split("/")[-1][:-5] for f in glob.glob("crates/*/must-fail/*.edit")}
 CRATES = {f.split("/")[1] for f in glob.glob("crates/*/src")}
 FILES = {f for f in glob.glob("**/*", recursive=True) if "/out/" not in f} | {".ci/run"}
-WORDS = set(re.findall(r"\w+", " ".join(open(f).read() for f in SOURCES + ["crates.txt"] + glob.glob("examples/*"))))
+WORDS = set(re.findall(r"\w+", " ".join(open(f).read() for f in SOURCES + ["crates.txt", "show"] + glob.glob("examples/*") + glob.glob("tools/show/*"))))
 # words of the toolchain, of the language and of the machine
 OUTSIDE = set("anew antt bash ci crates dyn ErrorKind failed FILE getD itoa kit lseek memcpy memset parse passed python3 rattle rt TimedOut TryFrom txt version zip".split())
 MACHINE = re.compile(r"rattle-kit-\w+(-plain)?|[0-9a-f]{16}|x86-64(-v\d)?|crates/CRATE/must-fail/NAME.edit|crates/NAME|\.antt")
