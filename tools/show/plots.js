@@ -52,11 +52,11 @@ class Timeline {
     const { stations } = this.run;
     const step = roundStep(11 / this.rowHeight);
     context.textAlign = "right";
-    context.fillStyle = colours.muted;
     for (let station = 0; station < stations; station += step) {
-      context.fillText(station, GUTTER - 8, COLUMN_HEAD + (station + 0.5) * this.rowHeight);
-      if (this.rowHeight > 8) fill(context, colours.line, GUTTER, COLUMN_HEAD + (station + 0.5) * this.rowHeight, width - GUTTER, 1, 0.6);
+      const y = COLUMN_HEAD + (station + 0.5) * this.rowHeight;
+      if (this.rowHeight > 8) fill(context, colours.line, GUTTER, y, width - GUTTER, 1, 0.6);
       context.fillStyle = colours.muted;
+      context.fillText(station, GUTTER - 8, y);
     }
   }
 

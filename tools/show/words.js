@@ -10,10 +10,11 @@ function plural(count, noun) {
   return `${number(count)} ${noun}${count === 1 ? "" : "s"}`;
 }
 
-function listed(stations, last = "and") {
+// The names of stations; of more than eight the first seven, and how many more there are.
+function listed(stations) {
   const names = stations.map(String);
-  if (names.length > NAMED) return `${names.slice(0, NAMED - 1).join(", ")} ${last} ${number(names.length - NAMED + 1)} more`;
-  return names.length < 2 ? names.join() : `${names.slice(0, -1).join(", ")} ${last} ${names.at(-1)}`;
+  if (names.length > NAMED) names.splice(NAMED - 1, Infinity, `${number(names.length - NAMED + 1)} more`);
+  return names.length < 2 ? names.join() : `${names.slice(0, -1).join(", ")} and ${names.at(-1)}`;
 }
 
 function inWords(run, cycle) {
@@ -83,7 +84,7 @@ function faultWords(run, bytes, { question, place }) {
   if (question !== 5) return "";
   const length = `It has ${plural(bytes.length, "character")}`;
   const shape = run.bus && bytes.length === run.stations + 2 ? ` and no space at place ${run.stations}` : "";
-  return `${length}${shape}; there ${run.stations === 1 ? "is 1 station" : `are ${number(run.stations)} stations`}.`;
+  return `${length}${shape}; there ${run.stations === 1 ? "is" : "are"} ${plural(run.stations, "station")}.`;
 }
 
 // A printable character stands as itself, any other byte as its two hexadecimal digits.
