@@ -10,6 +10,7 @@ use Rattle.arbiter.specs.Questions as Questions
 use Rattle.arbiter.specs.Questions.{Verdict, ◌then◌}
 use Rattle.arbiter.specs.Decisions.{requested, decision}
 use Rattle.arbiter.specs.Answers.{Effect, decided, opened, writes}
+pub mod Known
 
 -- "Opening takes N and m (and a head, if one is given)", and asks 1, 3 and 4
 abbrev pub opening : ℕ → ℕ → Head → Answer

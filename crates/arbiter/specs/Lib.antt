@@ -6,3 +6,4 @@ pub mod Decisions
 pub mod Answers
 pub mod Cycle
 pub mod Trace
+pub mod Theorems

@@ -92,9 +92,12 @@ fn differ(left: &[u8], right: &[u8]) -> bool
 
 // An arbiter that grants by the round-robin rule, a byte for each station.
 pub trait RoundRobin: Arbiter {
-    // Writes the grants of a cycle, and says what it decides.
+    // Writes the grants of a cycle, and says what it decides. Nothing else of the cycle changes.
     fn grant(cycle: &mut ServedCycle<'_>) -> Decision
         ensures value { result ≡ decision (length cycle.old.requests.now) cycle.old.picks cycle.old.head (requested cycle.old.requests.now) }
+        ensures same_picks { cycle.new.picks ≡ cycle.old.picks }
+        ensures same_head { cycle.new.head ≡ cycle.old.head }
+        ensures same_requests { cycle.new.requests.now ≡ cycle.old.requests.now }
         ensures same_reference { cycle.new.grants.ghost_name ≡ cycle.old.grants.ghost_name }
         ensures grants_after { cycle.new.grants.now ≡ RoundRobinRule.grants (length cycle.old.requests.now) cycle.old.picks cycle.old.head (requested cycle.old.requests.now) };
 

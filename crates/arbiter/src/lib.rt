@@ -5,6 +5,7 @@ pub mod engine;
 pub mod question;
 pub mod refusal;
 pub mod search;
+pub mod theorems;
 
 ghost use Rattle.std.specs.Prelude.{[], false, ◌≡◌};
 ghost use Rattle.rules.specs.RoundRobin.{start};
@@ -49,18 +50,18 @@ pub struct Decision {
 impl State {
     // The answer of a call that was given this state: served, with what is decided and this state with the next head; refused, with
     // the state as it is.
-    pub fn answer(self, decided: Result<Decision, Refusal>) -> Answer
+    pub fn answer(mut self, decided: Result<Decision, Refusal>) -> Answer
         ensures { result ≡ Answers.answered self decided }
     {
         match decided {
-            Ok(decision) => Answer {
-                outcome: Ok(decision.count),
-                state: State {
-                    head: decision.next,
-                    ..self
-                },
-                more: decision.more,
-            },
+            Ok(decision) => {
+                self.head = decision.next;
+                Answer {
+                    outcome: Ok(decision.count),
+                    state: self,
+                    more: decision.more,
+                }
+            }
             Err(refusal) => Answer {
                 outcome: Err(refusal),
                 state: self,

@@ -4,6 +4,7 @@
 #![tactic(auto)]
 
 mod question;
+pub mod theorems;
 
 ghost use Rattle.std.specs.Prelude.{ℕ, true, ◌≡◌, ◌≤◌, ◌<◌, ◌+◌, length, get_or};
 ghost use Rattle.arbiter.specs.Decisions.{requested};

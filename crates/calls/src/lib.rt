@@ -1,3 +1,4 @@
-// What 01 says of every call's answer, as theorems: statements in specs/, proofs in proofs/, no code.
-
+//! What holds of every call, as theorems.
 #![tactic(auto)]
+
+pub mod theorems;

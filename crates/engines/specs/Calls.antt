@@ -13,6 +13,7 @@ use Rattle.tree.specs.Calls.{TreeEffect}
 use Rattle.engines.specs.declared.Engine.{Engine}
 use Rattle.engines.specs.declared.Engine.TheVariants.{Scan, Tree, Thermometer, KoggeStone}
 pub mod Laws
+pub mod Known
 
 -- what an engine asks about a state
 abbrev pub state_questions : Engine → ℕ → ℕ → Head → Verdict

@@ -1,6 +1,8 @@
 // The plain scan, the tree, the thermometer arbiter and the Kogge-Stone arbiter behind one set of calls, which name the engine.
 #![tactic(auto)]
 
+pub mod theorems;
+
 ghost use Rattle.std.specs.Prelude.{◌≡◌};
 ghost use Rattle.engines.specs.Calls as EngineCalls;
 

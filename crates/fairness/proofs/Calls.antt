@@ -17,8 +17,7 @@ use Rattle.arbiter.specs.Answers.{Effect, moved, number}
 use Rattle.engines.specs.Calls.Laws.{Served, rule_grants, engine_served, engine_refused}
 use Rattle.token_bus.specs.Calls.Laws as BusCallsLaws
 use Rattle.fairness.specs.Cycles as RuleCycles
-use Rattle.fairness.specs.Cycles.{Ruled, next_head, Chain}
-use Rattle.fairness.proofs.Cycles.{Follows}
+use Rattle.fairness.specs.Cycles.{Ruled, next_head, Chain, Follows}
 use Rattle.fairness.specs.Waiting.{By, Call, Made, cycle, bus_cycle, run, served, asks, granted, acknowledged}
 
 -- one more is kept, or is not

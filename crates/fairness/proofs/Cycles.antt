@@ -16,16 +16,7 @@ use Rattle.rules.specs.RoundRobin.{start, order, granted, next}
 use Rattle.rules.proofs.RoundRobin.Laws as RoundRobinLaws
 use Rattle.rules.specs.Bus as BusRule
 use Rattle.rules.proofs.Bus.Laws as BusLaws
-use Rattle.fairness.specs.Cycles.{Cycle, Ruled, next_head, Chain, Waits, total, BoundedPicks}
-
--- cycles that follow one another by the rule
-abbrev pub Follows : ℕ → Head → List Cycle → Type 0
-Follows n h cs = Chain (Ruled n) (next_head n) h cs
-
--- While a station waits, all that are granted stood before it at the start. So the pick counts add up to less than N, and nobody is
--- granted twice
-abbrev pub WaitingCycles : Type 0
-WaitingCycles = (n : ℕ) (h : Head) (w : ℕ) (cs : List Cycle) → w < n → Follows n h cs → Waits w cs → BoundedPicks n cs
+use Rattle.fairness.specs.Cycles.{Cycle, Ruled, next_head, Chain, Follows, Waits, total, BoundedPicks, WaitingCycles}
 
 -- some cycles of a chain, whatever stands before them and after them
 module _ {H C : Type 0} (right : H → C → Type 0) (next : H → C → H) where

@@ -128,7 +128,7 @@ not_twice = record {
     once s w (c ∷ cs) wait v = (wait_bounded s w c cs wait).once v
 
 pub one_least : OneLeast
-one_least claim j k a b = omega (arith, a.least k b.holds, b.least j a.holds)
+one_least test j k a b = omega (arith, a.least k b.holds, b.least j a.holds)
 
 pub unserved_refused : UnservedRefused by_engines
 unserved_refused s calls none =

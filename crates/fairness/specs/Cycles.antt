@@ -1,5 +1,5 @@
 -- The wait rule over cycles of the round-robin rule by themselves, whatever it is that asks. Each cycle has a pick count of its own.
--- n is the width, 01's N; h is the head that a cycle gets. What is promised of them is `WaitingCycles`, with its proof.
+-- n is the width; h is the head that a cycle gets.
 -- Assumes nothing.
 use Rattle.std.specs.Prelude.{ℕ, ◌+◌, ◌≤◌, ◌<◌, ◌≡◌, Bool, true, false, List, [], ◌∷◌}
 use Rattle.rules.specs.Head.{Head}
@@ -28,6 +28,10 @@ abbrev pub Chain : {H C : Type 0} → (H → C → Type 0) → (H → C → H) �
 Chain right hands h [] = Unit {0}
 Chain right hands h (c ∷ cs) = right h c × Chain right hands (hands h c) cs
 
+-- cycles that follow one another by the rule
+abbrev pub Follows : ℕ → Head → List Cycle → Type 0
+Follows n h cs = Chain (Ruled n) (next_head n) h cs
+
 -- station w waits: in each of them it asks and is not granted
 abbrev pub Waits : ℕ → List Cycle → Type 0
 Waits w [] = Unit {0}
@@ -42,3 +46,8 @@ total (c ∷ cs) = c.picks + total cs
 pub record BoundedPicks (n : ℕ) (cs : List Cycle) : Type 0 where
   pub short : total cs < n
   pub once : (v : ℕ) → count (λ c. c.grants v) cs ≤ 1
+
+-- While a station waits, all that are granted stood before it at the start. So the pick counts add up to less than n, and nobody is
+-- granted twice
+abbrev pub WaitingCycles : Type 0
+WaitingCycles = (n : ℕ) (h : Head) (w : ℕ) (cs : List Cycle) → w < n → Follows n h cs → Waits w cs → BoundedPicks n cs

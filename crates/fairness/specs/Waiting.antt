@@ -87,9 +87,9 @@ pub record Least (claim : ℕ → Type 0) (k : ℕ) : Type 0 where
   pub holds : claim k
   pub least : (j : ℕ) → claim j → k ≤ j
 
--- so there is one such number at most
-abbrev pub OneLeast : Type 1
-OneLeast = (claim : ℕ → Type 0) (j k : ℕ) → Least claim j → Least claim k → j ≡ k
+-- so there is one such number at most; said of tests, since a claim about all claims is too large for a contract
+abbrev pub OneLeast : Type 0
+OneLeast = (test : ℕ → Bool) (j k : ℕ) → Least (λ n. test n ≡ true) j → Least (λ n. test n ≡ true) k → j ≡ k
 
 -- an engine serves a state: it opens with it
 abbrev pub Serves : Engine → State → Type 0

@@ -1,3 +1,4 @@
-// The wait rule of 01 as theorems: definitions in specs/, proofs in proofs/, no code.
-
+//! The wait rule as theorems.
 #![tactic(auto)]
+
+pub mod theorems;

@@ -63,6 +63,9 @@ impl RoundRobin for KoggeStone {
 fn count_round(cycle: &mut ServedCycle<'_>, room: &mut [u8]) -> Decision
     requires room_bound { length cycle.old.requests.now < length room.old }
     ensures value { result ≡ decision (length cycle.old.requests.now) cycle.old.picks cycle.old.head (requested cycle.old.requests.now) }
+    ensures same_picks { cycle.new.picks ≡ cycle.old.picks }
+    ensures same_head { cycle.new.head ≡ cycle.old.head }
+    ensures same_requests { cycle.new.requests.now ≡ cycle.old.requests.now }
     ensures same_reference { cycle.new.grants.ghost_name ≡ cycle.old.grants.ghost_name }
     ensures grants_after { cycle.new.grants.now ≡ RoundRobinRule.grants (length cycle.old.requests.now) cycle.old.picks cycle.old.head (requested cycle.old.requests.now) }
 {
@@ -87,6 +90,9 @@ fn read_off(cycle: &mut ServedCycle<'_>, picks: Picks, counts: &[u8], more: bool
     requires counts_len { length counts.now ≡ length cycle.old.requests.now + 1 }
     requires more_value { more ≡ KoggeStoneRule.network_cuts (length cycle.old.requests.now) cycle.old.picks cycle.old.head (requested cycle.old.requests.now) }
     ensures value { result ≡ decision (length cycle.old.requests.now) cycle.old.picks cycle.old.head (requested cycle.old.requests.now) }
+    ensures same_picks { cycle.new.picks ≡ cycle.old.picks }
+    ensures same_head { cycle.new.head ≡ cycle.old.head }
+    ensures same_requests { cycle.new.requests.now ≡ cycle.old.requests.now }
     ensures same_reference { cycle.new.grants.ghost_name ≡ cycle.old.grants.ghost_name }
     ensures grants_after { cycle.new.grants.now ≡ RoundRobinRule.grants (length cycle.old.requests.now) cycle.old.picks cycle.old.head (requested cycle.old.requests.now) }
 {

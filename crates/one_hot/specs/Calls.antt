@@ -10,6 +10,7 @@ use Rattle.arbiter.specs.Questions as Questions
 use Rattle.arbiter.specs.Questions.{Verdict, ◌then◌}
 use Rattle.arbiter.specs.Answers.{Effect, moved, served, refused, if_passed, writes}
 pub mod Laws
+pub mod Known
 
 -- the image of a head: "N bytes, all 0 for none or a single 1 at the head"
 unfoldable pub image : ℕ → Head → List ℕ

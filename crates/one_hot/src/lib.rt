@@ -1,6 +1,8 @@
 // The one-hot image of the head, 01's wire image: a byte for each station, all 0 for none or a single 1 at the head.
 #![tactic(auto)]
 
+pub mod theorems;
+
 ghost use Rattle.std.specs.Prelude.{◌≡◌, length, Ok};
 ghost use Rattle.rules.specs.Head as Heads;
 ghost use Rattle.arbiter.specs.Answers as Answers;

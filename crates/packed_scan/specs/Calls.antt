@@ -10,6 +10,7 @@ use Rattle.arbiter.specs.Questions.{Verdict, ◌then◌}
 use Rattle.arbiter.specs.Answers.{Effect, opened, writes}
 use Rattle.arbiter.specs.Cycle.{answer, granting}
 pub mod Laws
+pub mod Known
 
 -- 1, 3 and 4, where "3 asks for m 1"
 abbrev pub state_questions : ℕ → ℕ → Head → Verdict

@@ -5,6 +5,7 @@
 mod lines;
 mod question;
 mod table;
+pub mod theorems;
 
 ghost use Rattle.std.specs.Prelude.{◌++◌, ◌≡◌, ◌*◌, ◌≤◌, ◌<◌, length, replicate, Ok};
 ghost use Rattle.rules.specs.Packing.{packed_length, pack, unpack};

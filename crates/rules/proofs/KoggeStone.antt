@@ -1,3 +1,3 @@
 -- What follows from the definitions of the Kogge-Stone network.
 pub mod Laws
-mod Known
+pub mod Known

@@ -2,4 +2,4 @@
 pub mod Laws
 pub mod Cuts
 pub mod Running
-mod Known
+pub mod Known

@@ -8,3 +8,4 @@ pub mod KoggeStone
 pub mod Packing
 pub mod Bus
 pub mod Pending
+pub mod Theorems

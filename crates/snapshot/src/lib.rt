@@ -3,6 +3,8 @@
 // byte for each of these; it is still read, but no longer written.
 #![tactic(auto)]
 
+pub mod theorems;
+
 ghost use Rattle.std.specs.Prelude.{◌≡◌, length, Ok};
 ghost use Rattle.arbiter.specs.Answers as Answers;
 ghost use Rattle.arbiter.specs.Decisions as Decisions;

@@ -2,6 +2,8 @@
 // other byte stays as it was.
 #![tactic(auto)]
 
+pub mod theorems;
+
 #[cfg(test)]
 mod tests;
 

@@ -3,6 +3,7 @@
 #![tactic(auto)]
 
 pub mod adder;
+pub mod theorems;
 
 ghost use Rattle.std.specs.Prelude.{true, ◌≡◌, ◌≤◌, length};
 ghost use Rattle.rules.specs.Thermometer.{is_code};

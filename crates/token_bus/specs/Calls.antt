@@ -13,6 +13,7 @@ use Rattle.arbiter.specs.Questions.{Verdict, ◌then◌}
 use Rattle.arbiter.specs.Answers.{Effect, decided, opened, writes}
 use Rattle.arbiter.specs.Cycle.{asking}
 pub mod Laws
+pub mod Known
 
 -- 1, 3 and 4
 abbrev pub state_questions : ℕ → ℕ → Head → Verdict

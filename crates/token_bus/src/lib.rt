@@ -3,6 +3,7 @@
 #![tactic(auto)]
 
 mod question;
+pub mod theorems;
 
 ghost use Rattle.std.specs.Prelude.{cond, ◌≡◌, ◌+◌, ◌%◌, ◌<◌, length, replicate, Ok};
 ghost use Rattle.rules.specs.Bus as BusRule;

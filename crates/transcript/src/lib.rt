@@ -5,6 +5,7 @@ mod cycles;
 mod first_line;
 mod lines;
 mod output;
+pub mod theorems;
 
 ghost use Rattle.std.specs.Prelude.{◌++◌, ◌≡◌, ◌≤◌, length, drop};
 ghost use Rattle.text.specs.Characters.{line_feed};

@@ -11,6 +11,7 @@ use Rattle.arbiter.specs.Questions.{Verdict, ◌then◌}
 use Rattle.arbiter.specs.Answers.{refused, if_passed, opened}
 use Rattle.arbiter.specs.Cycle.{asking, answer, granting}
 pub mod Laws
+pub mod Known
 
 -- 1, 2, 3 and 4
 abbrev pub state_questions : ℕ → ℕ → Head → Verdict

@@ -5,6 +5,7 @@
 mod descent;
 mod nodes;
 pub mod question;
+pub mod theorems;
 
 ghost use Rattle.std.specs.Prelude.{◌≡◌, ◌*◌, ◌≤◌, length, replicate, Ok};
 ghost use Rattle.rules.specs.RoundRobin as RoundRobinRule;

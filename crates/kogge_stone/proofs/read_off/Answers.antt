@@ -12,7 +12,7 @@ returns-then-count-eq0 c =
     let read =
     Counts.idles y.picks _ y.head y.requests.now y.picked c.requires.picks_value c.args.picks.coded y.head_bound _ c.requires.counts_value
     _ c.first_station-first.ensures _ c.grant_round.ensures _ c.count-count.ensures c.if-count-eq0.true in
-    record { value = c.idle.ensures ∙ read.0; same_reference = refl; grants_after = read.1 }
+    record { value = c.idle.ensures ∙ read.0; same_picks = refl; same_head = refl; same_requests = refl; same_reference = refl; grants_after = read.1 }
 
 pub returns : goal.returns
 returns c =
@@ -23,4 +23,4 @@ returns c =
     let read =
     Counts.decides y.picks _ y.head y.requests.now y.picked c.requires.picks_value c.args.picks.coded y.head_bound _ c.requires.counts_value
     _ c.first_station-first.ensures _ c.grant_round.ensures _ c.count-count.ensures c.if-count-eq0.false _ (rw c.requires.counts_value) c.args.more c.requires.more_value in
-    record { value = c.decide.ensures ∙ rw last read.0; same_reference = refl; grants_after = read.1 }
+    record { value = c.decide.ensures ∙ rw last read.0; same_picks = refl; same_head = refl; same_requests = refl; same_reference = refl; grants_after = read.1 }

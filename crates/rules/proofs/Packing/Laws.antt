@@ -1,6 +1,6 @@
 -- Laws of packed wires: packing and unpacking undo each other, a single grant is a single bit, and what the table's entries say.
 -- Promises `line_bit`, `line_zero`, `unpack_past`, `unpack_bit`, `line_packed`, `unpack_pack`, `pack_is`, `wire_at`,
--- `pack_unpack`, `pack_none`, `pack_one`, `Entry`, `entry`, `some_line`, `entry_none`, `entry_own` and `entry_at`. The rest are
+-- `pack_unpack`, `pack_none`, `pack_one`, `entry`, `some_line`, `entry_none`, `entry_own` and `entry_at`. The rest are
 -- steps of their proofs.
 -- Assumes nothing.
 use Rattle.std.specs.Prelude.{ℕ, zero, suc, ◌+◌, ◌-◌, ◌*◌, ◌/◌, ◌%◌, ◌^◌, ◌≤◌, ◌<◌, ◌≡◌, refl, false, List, [], ◌∷◌, map, ltb, eqb, length, get_or, set, replicate}
@@ -13,6 +13,7 @@ use Rattle.std.proofs.lemmas.Bool.{eqb-false}
 use Rattle.rules.specs.Lists.{bit, range, filter, marks}
 use Rattle.rules.specs.Lists.Laws as ListsLaws
 use Rattle.rules.specs.Packing.{line, wire, unpack, packed_length, binary, packed_byte, pack, first_or8, first_line, entries}
+pub use Rattle.rules.specs.Theorems.{Entry}
 pub use Rattle.rules.specs.Packing.Laws.{unpack_length, unpack_at, pack_length, pack_at}
 
 -- a line is 0 or 1
@@ -186,13 +187,6 @@ module _ (n w : ℕ) (station : w < n) where
   pack_one =
       pack_is (marks n (w ∷ [])) single (single_length ∙ ap packed_length (sym (ListsLaws.length_table _ 0 n))) single_byte
       (λ k j l. one_at n w (8 * k + j) station ∙ single_line k j l)
-
--- what an entry says of a byte's lines: those from the start up to it are not set, and it is set unless it is 8
-pub record Entry (byte start entry : ℕ) : Type 0 where
-  pub low : start ≤ entry
-  pub most : entry ≤ 8
-  pub quiet : (j : ℕ) → start ≤ j → j < entry → line byte j ≡ 0
-  pub set : entry < 8 → line byte entry ≡ 1
 
 off : (byte j : ℕ) → eqb (line byte j) 1 ≡ false → line byte j ≡ 0
 off byte j e = omega (arith, line_bit byte j, eqb-false (line byte j) 1 e)

@@ -1,7 +1,7 @@
 -- Laws of the lamp: it says that more ask than are granted.
--- Promises `more_granted`, `more_picks`, `more_told` and `more_bytes`. The rest are steps of their proofs.
+-- Promises `more_granted`, `more_picks`, `more_told`, `more_bytes` and `more_by_bytes`. The rest are steps of their proofs.
 -- Assumes nothing.
-use Rattle.std.specs.Prelude.{ℕ, not, nat_eq, ◌<◌, ◌≤◌, ◌≡◌, Bool, true, false, ◌&&◌, List, eqb, ltb, length, get_or}
+use Rattle.std.specs.Prelude.{ℕ, not, nat_eq, ◌<◌, ◌≤◌, ◌≡◌, refl, Bool, true, false, ◌&&◌, List, eqb, ltb, length, get_or}
 use Rattle.std.proofs.Common.{sym, ap, ◌∙◌, true≢false, arith, ext_get_or, lt-ltb, ltb-true, ltb-false}
 use Rattle.std.proofs.Math.Bool.{and-false}
 use Rattle.std.specs.Cmp.Lexicographic.{same_text, other_text}
@@ -13,6 +13,7 @@ use Rattle.rules.specs.Lists.Laws as ListsLaws
 use Rattle.rules.specs.RoundRobin.{start, order, granted, grants}
 use Rattle.rules.proofs.RoundRobin.Laws as RoundRobinLaws
 use Rattle.rules.specs.Pending.{more}
+use Rattle.rules.specs.Theorems.{MoreBytes}
 pub use Rattle.rules.specs.Pending.Laws.{more_any, more_some, more_none, more_count}
 
 -- a cycle by the round-robin rule
@@ -96,3 +97,7 @@ module _ (n m : ℕ) (h : Head) (requests : List ℕ) (long : length requests �
       ListsLaws.split (pointwise nat_eq requests (grants n m h asks))
       (λ t. e ∙ rw t (sym (more_same (same_text requests (grants n m h asks) (sym t)))))
       (λ f. e ∙ rw f (sym (more_other (other_text requests (grants n m h asks) (sym f)))))
+
+-- so they are told by the bytes
+pub more_by_bytes : MoreBytes
+more_by_bytes n m h requests long station bits = sym (more_bytes n m h requests long station bits _ refl)

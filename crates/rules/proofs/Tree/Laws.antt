@@ -12,6 +12,7 @@ use Rattle.rules.specs.Head.{Head}
 use Rattle.std.specs.Prelude.{None}
 use Rattle.rules.specs.Lists.{range, filter, member}
 use Rattle.rules.specs.Lists.Laws as ListsLaws
+use Rattle.rules.specs.Theorems.{NodesHoldTree}
 use Rattle.rules.specs.Tree.{value, s1, s0, head_at, leaf, join, joined, nodes, goes_right, child, descend, reached}
 
 -- a value's S1 is the one it was made of
@@ -198,3 +199,13 @@ module _ (n : ℕ) (t : List ℕ) where
 
   pub reached_station : 1 ≤ n → reached n t < n
   reached_station l = lands n 1 (omega arith) (way_begins l)
+
+-- so the node buffer holds the tree
+pub nodes_hold_tree : NodesHoldTree
+nodes_hold_tree n h asks some =
+    record {
+      bytes = nodes_length_lem n h asks some;
+      zero_byte = node_zero n h asks some;
+      stations = node_leaf n h asks some;
+      joined = node_joined n h asks some;
+    }

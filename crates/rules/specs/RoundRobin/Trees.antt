@@ -1,6 +1,6 @@
 -- The tree's rule held against the round-robin rule on small widths, by computing every case.
 -- Assumes nothing.
-use Rattle.std.specs.Prelude.{ℕ, ◌/◌, ◌%◌, ◌^◌, Bool, true, List, ◌∷◌, map, ◌≡◌, refl, eqb, length}
+use Rattle.std.specs.Prelude.{ℕ, ◌+◌, ◌/◌, ◌%◌, ◌^◌, Bool, true, List, ◌∷◌, map, ◌≡◌, refl, eqb, length}
 use Rattle.std.specs.List.{list_all}
 use Rattle.rules.specs.Head.{Head}
 use Rattle.std.specs.Prelude.{None, Some}
@@ -20,12 +20,11 @@ heads n = None ∷ map Some (range 0 n)
 pub agrees : ℕ → Head → Bool
 agrees n h = list_all (λ x. same (chosen n (nodes n h (asking x))) (granted n 1 h (asking x))) (range 0 (2 ^ n))
 
--- so it does with 2 stations, from none and both heads
-pub trees_of_two : (list_all (agrees 2) (heads 2) ≡ true) × (length (heads 2) ≡ 3)
-unfolding asking heads agrees start order granted value s1 s0 head_at leaf join joined nodes goes_right child descend reached chosen
-trees_of_two = (refl, refl)
+-- of n stations, from none and from every head
+abbrev pub Agree : ℕ → Type 0
+Agree n = (list_all (agrees n) (heads n) ≡ true) × (length (heads n) ≡ n + 1)
 
--- and with 4, from none and all four
-pub trees_of_four : (list_all (agrees 4) (heads 4) ≡ true) × (length (heads 4) ≡ 5)
+-- so it does with 2 stations, and with 4
+pub small_trees : Agree 2 × Agree 4
 unfolding asking heads agrees start order granted value s1 s0 head_at leaf join joined nodes goes_right child descend reached chosen
-trees_of_four = (refl, refl)
+small_trees = ((refl, refl), (refl, refl))

@@ -1,5 +1,5 @@
--- Running codes by computing: the examples of 001, told by their order. That the order is this one is in the module of the same name
--- in proofs.
+-- Running codes by computing: three published examples. They are computed from their order; that the order is this one is in the module
+-- of the same name in proofs.
 -- Assumes nothing.
 use Rattle.std.specs.Prelude.{ℕ, ◌≡◌, refl, List, [], ◌∷◌}
 use Rattle.std.specs.Int.Count.{ones}
@@ -12,21 +12,18 @@ use Rattle.rules.specs.Thermometer.{code, add, inputs, running, running_codes}
 abbrev pub codes : ℕ → ℕ → ℕ → List ℕ → List ℕ
 codes n m h asking = running_codes n m (Some h) (λ w. member w asking)
 
--- 001 goes downwards, so station w is its input 7 - w. Figure 2a: inputs 5, 4 and 2 ask, and the head, which the text does not name,
--- is taken at input 7
-pub known_2a_ordered : order 8 (Some 0) ≡ 0 ∷ 1 ∷ 2 ∷ 3 ∷ 4 ∷ 5 ∷ 6 ∷ 7 ∷ []
-    → codes 8 2 0 (2 ∷ 3 ∷ 5 ∷ []) ≡ 0 ∷ 0 ∷ 0 ∷ 1 ∷ 3 ∷ 3 ∷ 3 ∷ 3 ∷ 3 ∷ []
-unfolding inputs running running_codes add code ones
-known_2a_ordered e = rw e refl
+pub record KnownRunningCodes : Type 0 where
+  -- The examples go downwards, so station w is input 7 - w. Inputs 5, 4 and 2 ask, and the head, which the text does not name, is taken at
+  -- input 7
+  pub figure_2a : codes 8 2 0 (2 ∷ 3 ∷ 5 ∷ []) ≡ 0 ∷ 0 ∷ 0 ∷ 1 ∷ 3 ∷ 3 ∷ 3 ∷ 3 ∷ 3 ∷ []
+  -- the head is at input 3, and inputs 6 and 2 ask
+  pub figure_2b : codes 8 2 4 (1 ∷ 5 ∷ []) ≡ 0 ∷ 0 ∷ 1 ∷ 1 ∷ 1 ∷ 1 ∷ 3 ∷ 3 ∷ 3 ∷ []
+  -- station w is input 4 - w; inputs 3, 2 and 0 ask, and the head is taken at input 4
+  pub figure_3 : codes 5 2 0 (1 ∷ 2 ∷ 4 ∷ []) ≡ 0 ∷ 0 ∷ 1 ∷ 3 ∷ 3 ∷ 3 ∷ []
 
--- figure 2b: the head is at input 3, and inputs 6 and 2 ask
-pub known_2b_ordered : order 8 (Some 4) ≡ 4 ∷ 5 ∷ 6 ∷ 7 ∷ 0 ∷ 1 ∷ 2 ∷ 3 ∷ []
-    → codes 8 2 4 (1 ∷ 5 ∷ []) ≡ 0 ∷ 0 ∷ 1 ∷ 1 ∷ 1 ∷ 1 ∷ 3 ∷ 3 ∷ 3 ∷ []
+pub known_ordered : order 8 (Some 0) ≡ 0 ∷ 1 ∷ 2 ∷ 3 ∷ 4 ∷ 5 ∷ 6 ∷ 7 ∷ []
+    → order 8 (Some 4) ≡ 4 ∷ 5 ∷ 6 ∷ 7 ∷ 0 ∷ 1 ∷ 2 ∷ 3 ∷ []
+    → order 5 (Some 0) ≡ 0 ∷ 1 ∷ 2 ∷ 3 ∷ 4 ∷ []
+    → KnownRunningCodes
 unfolding inputs running running_codes add code ones
-known_2b_ordered e = rw e refl
-
--- figure 3: station w is its input 4 - w; inputs 3, 2 and 0 ask, and the head is taken at input 4
-pub known_3_ordered : order 5 (Some 0) ≡ 0 ∷ 1 ∷ 2 ∷ 3 ∷ 4 ∷ []
-    → codes 5 2 0 (1 ∷ 2 ∷ 4 ∷ []) ≡ 0 ∷ 0 ∷ 1 ∷ 3 ∷ 3 ∷ 3 ∷ []
-unfolding inputs running running_codes add code ones
-known_3_ordered e = rw e refl
+known_ordered e f g = record { figure_2a = rw e refl; figure_2b = rw f refl; figure_3 = rw g refl }

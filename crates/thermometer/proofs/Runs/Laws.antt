@@ -1,8 +1,8 @@
 -- The code that a walk carries is the running code of the cycle: at each station 01's saturated count of those that ask before it.
--- Promises `code_first`, `code_next`, `code_coded`, `code_counts`, `hands_code`, `to_counts`, `to_codes`, `carried_high` and
--- `carried_low`. The rest are steps of their proofs.
+-- Promises `code_first`, `code_next`, `code_coded`, `code_counts`, `hands_code`, `to_counts`, `to_codes`, `carried_high`,
+-- `carried_low`, `carried_from_head` and `carried_from_zero`. The rest are steps of their proofs.
 -- Assumes nothing.
-use Rattle.std.specs.Prelude.{ℕ, suc, ◌+◌, ◌-◌, ◌≤◌, ◌<◌, min, ◌≡◌, Bool, true, ◌||◌, List, ◌++◌, map, ltb, length, get_or}
+use Rattle.std.specs.Prelude.{ℕ, suc, ◌+◌, ◌-◌, ◌≤◌, ◌<◌, min, ◌≡◌, Bool, true, ◌||◌, List, [], ◌++◌, map, ltb, length, get_or}
 use Rattle.std.proofs.Common.{sym, ap, ◌∙◌, append_assoc, arith}
 use Rattle.std.proofs.lemmas.List.{map-append}
 use Rattle.std.specs.Int.Count.{ones}
@@ -18,7 +18,7 @@ use Rattle.rules.specs.Walk.{reached}
 use Rattle.rules.proofs.Walk.Laws as WalkLaws
 use Rattle.arbiter.specs.Decisions.{requested}
 use Rattle.thermometer.specs.declared.Walk.{Walk}
-use Rattle.thermometer.specs.Runs.{Ran, begun, asked, code_at}
+use Rattle.thermometer.specs.Runs.{Ran, begun, asked, code_at, CarriedHigh, CarriedLow}
 
 -- the requests of a run of stations
 module _ (m : ℕ) (requests : List ℕ) where
@@ -127,3 +127,10 @@ module _ (n m : ℕ) (h : Head) (requests old mid new : List ℕ) (half now : Wa
       let on = rw (asked_length m requests f (n - f)) at (running_carried m 0 (part f (n - f)) (part 0 f) w) in
       (rw whole at two.carried)
       ∙ sym (rw cycle_codes (on ∙ ap (λ (c : ℕ). get_or (running m c (part 0 f)) w 0) (sym one.carried) ∙ upto))
+
+-- as they are promised
+pub carried_from_head : CarriedHigh
+carried_from_head n m h requests old new now w = carried_high n m h requests old [] new now now w
+
+pub carried_from_zero : CarriedLow
+carried_from_zero n m h requests old mid new half now w = carried_low n m h requests old mid new half now w

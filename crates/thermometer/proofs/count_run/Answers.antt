@@ -18,22 +18,21 @@ use lib.Count.{ones}
 use lib.Bits.{bit_or}
 use Rattle.rules.proofs.Walk.Laws as WalkLaws
 use Rattle.thermometer.proofs.Runs.Laws.{code_first, code_next, to_codes}
-use mir.Syntax.{fn₀}
-use Rattle.arbiter.specs.Trace.{trace, end, computes, calls, leaves, either, repeats}
+use Rattle.arbiter.specs.Trace.{trace, end, computes, runs, leaves, either, repeats}
 use Rattle.thermometer.proofs.Steps as WalkSteps
 use Rattle.thermometer.proofs.count_run.Code as code
 use Rattle.thermometer.proofs.count_run.Goals as goal
 use Rattle.thermometer.proofs.count_run.Goals.{else-sum-walk, then-sum-walk}
 
--- N3's "one adder step for each station", read off the code. There is one loop, and a turn of it is: its own test, a request's place,
+-- One adder step for each station, read off the code. There is one loop, and a turn of it is: its own test, a request's place,
 -- one adder step, an or, one comparison, a grant's place or not, and the next station. Before the loop the code of the picks is made, and
 -- after it there are a cast, a comparison and an or
 one_step : trace (code.function).body end
-    ≡ calls (fn₀ "thermometer::adder::code")
+    ≡ runs "thermometer::adder::code"
     (repeats
     (computes
     (either end (leaves end)
-    (computes (calls (fn₀ "thermometer::adder::step") (computes (computes (either (computes end) end (computes end))))))))
+    (computes (runs "thermometer::adder::step" (computes (computes (either (computes end) end (computes end))))))))
     (computes (computes (computes (leaves end)))))
 one_step = refl
 

@@ -1,4 +1,4 @@
--- 01, "Known turns", its line on the adder, by computing: codes are written in binary there.
+-- Some sums by computing. Codes are written in binary here.
 -- Assumes nothing.
 use Rattle.std.specs.Prelude.{ℕ, ◌≡◌, refl, Bool, true, false, List, [], ◌∷◌, Result}
 use Rattle.std.specs.Int.Count.{ones}
@@ -9,25 +9,25 @@ use Rattle.thermometer.specs.declared.adder.Sum.{Sum}
 use Rattle.thermometer.specs.Adder.{sum, code_of, cut_of}
 
 -- what the adder's answer says: a number, a place, a code, and whether it cut anything off
-record Said : Type 0 where
-  number : ℕ
-  place : ℕ
-  code : ℕ
-  cut : Bool
+pub record Said : Type 0 where
+  pub number : ℕ
+  pub place : ℕ
+  pub code : ℕ
+  pub cut : Bool
 
-abbrev said : Result Sum Refusal → Said
+abbrev pub said : Result Sum Refusal → Said
 said answer = record { number = number_of answer; place = place_of answer; code = code_of answer; cut = cut_of answer }
 
--- "m 2: 01 and 01 give 11; 11 and 01 give 11; 10 is refused by 13", of which the second alone adds up to more than 2; nine picks are
--- refused by 3, whatever the codes
-abbrev sums : List Said
-sums = said (sum 2 1 1) ∷ said (sum 2 3 1) ∷ said (sum 2 2 1) ∷ said (sum 9 2 1) ∷ []
+pub record KnownSums : Type 0 where
+  -- with 2 picks: 01 and 01 give 11
+  pub exact : said (sum 2 1 1) ≡ record { number = 0; place = 0; code = 3; cut = false }
+  -- 11 and 01 give 11 too, and add up to more
+  pub cut_off : said (sum 2 3 1) ≡ record { number = 0; place = 0; code = 3; cut = true }
+  -- 10 is no code
+  pub no_code : said (sum 2 2 1) ≡ record { number = 13; place = 0; code = 0; cut = false }
+  -- nine picks are refused by 3, whatever the codes
+  pub nine_picks : said (sum 9 2 1) ≡ record { number = 3; place = 0; code = 0; cut = false }
 
-pub known_sums : sums
-    ≡ record { number = 0; place = 0; code = 3; cut = false }
-    ∷ record { number = 0; place = 0; code = 3; cut = true }
-    ∷ record { number = 13; place = 0; code = 0; cut = false }
-    ∷ record { number = 3; place = 0; code = 0; cut = false }
-    ∷ []
+pub known : KnownSums
 unfolding code is_code add cuts ones
-known_sums = refl
+known = record { exact = refl; cut_off = refl; no_code = refl; nine_picks = refl }

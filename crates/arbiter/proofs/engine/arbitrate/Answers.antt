@@ -1,33 +1,36 @@
 -- `arbitrate` meets its contract: where both groups of questions pass, all do, and the highest byte is in hand.
 -- Assumes nothing.
-use Rattle.std.proofs.Common.{◌≡◌, ◌∙◌, sym, ap, length, replicate, Ok}
+use Rattle.std.proofs.Common.{◌≡◌, ◌∙◌, sym, ap, List, [], ◌∷◌, length, replicate, Ok}
 use Rattle.arbiter.specs.Decisions.Laws.{quiet_decides, quiet_grants}
 use Rattle.arbiter.specs.Places.{highest}
 use Rattle.arbiter.specs.Questions.Laws.{read_passed, ready, of_requests}
 use mathlib.Core.Path.{refl}
-use mir.Syntax.{Args, fn, fn₀, method, given}
-use Rattle.arbiter.specs.Trace.{Trace, trace, end, computes, calls, leaves, either}
+use mir.Syntax.{Opd, Symbol}
+use Rattle.arbiter.specs.Trace.{named, bound, Trace, trace, end, computes, calls, runs, leaves, either, chooses, case}
 use Rattle.arbiter.proofs.engine.arbitrate.Code as code
 use Rattle.arbiter.proofs.engine.arbitrate.Goals as goal
 
 -- where a `?` leaves
-abbrev asked : Args → Args → Trace → Trace
-asked verdict refusal t =
-    calls (fn "core::result::ResultTry::branch" verdict)
-    (either (either end (either (calls (fn "core::result::ResultFromResidualErrResidual::from_residual" refusal) (leaves end)) end end) end) end t)
+abbrev tries : Opd → Trace → Trace
+tries on t =
+    runs "core::result::ResultTry::branch"
+    (chooses on
+    (case (0 ∷ []) end
+    (case (1 ∷ []) (calls (named "core::result::ResultFromResidualErrResidual::from_residual" ("core::convert::AnyFrom::from" ∷ [])) (leaves end)) end))
+    t)
 
--- Read off the code, for every arbiter that grants by the rule: a cycle that is not refused and in which somebody asks grants once,
--- and nothing is repeated
-one_count : (b : Args) × (r : Args) × (b₂ : Args) × (r₂ : Args) × (bytes : Args) × (arbiter : Args)
+-- Read off the code, for every arbiter that grants by the rule: a cycle that is not refused and in which somebody asks calls the
+-- arbiter's `grant` once, and nothing is repeated
+one_count : (on : Opd) × (on₂ : Opd) × (drops : List Symbol)
     × (trace (code.function).body end
-    ≡ calls (fn₀ "arbiter::question::state")
-    (asked b r
-    (calls (fn₀ "arbiter::question::cycle")
-    (asked b₂ r₂
+    ≡ runs "arbiter::question::state"
+    (tries on
+    (runs "arbiter::question::cycle"
+    (tries on₂
     (computes
-    (either (calls (fn "core::slice::edits::slice+T::fill" bytes) (calls (fn₀ "arbiter::idle") (leaves end))) end
-    (calls (method (given 0) 0 arbiter) (leaves end))))))))
-one_count = (_, _, _, _, _, _, refl)
+    (either (calls (named "core::slice::edits::slice+T::fill" drops) (runs "arbiter::idle" (leaves end))) end
+    (calls (bound 0 0) (leaves end))))))))
+one_count = (_, _, _, refl)
 
 pub returns-then-high-eq0 : goal.returns-then-high-eq0
 returns-then-high-eq0 g c =

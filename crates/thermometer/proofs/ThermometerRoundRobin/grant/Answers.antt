@@ -1,6 +1,6 @@
 -- `grant` meets its contract: two runs are one walk round.
 -- Assumes nothing.
-use Rattle.std.proofs.Common.{length, ◌≡◌, refl, ap, ◌∙◌, arith}
+use Rattle.std.proofs.Common.{List, length, ◌≡◌, refl, ap, ◌∙◌, arith}
 use Rattle.std.specs.Int.Count.{ones}
 use Rattle.rules.specs.Walk as Walks
 use Rattle.rules.proofs.Walk.Laws.{Walked}
@@ -9,17 +9,17 @@ use Rattle.rules.proofs.Thermometer.Laws.{zero_ones, zero_is_code}
 use Rattle.arbiter.specs.Decisions.{requested, counted}
 use Rattle.arbiter.specs.Decisions.Laws as DecisionsLaws
 use Rattle.thermometer.proofs.Runs.Laws.{hands_code, to_counts}
-use mir.Syntax.{Args, fn, fn₀}
-use Rattle.arbiter.specs.Trace.{trace, end, calls, leaves}
+use mir.Syntax.{Symbol}
+use Rattle.arbiter.specs.Trace.{named, trace, end, calls, runs, leaves}
 use Rattle.thermometer.proofs.ThermometerRoundRobin.grant.Code as code
 use Rattle.thermometer.proofs.ThermometerRoundRobin.grant.Goals as goal
 
--- N3, read off the code: a count goes once round. The grants are cleared, and then there are two runs, and no loop beside them
-two_runs : (bytes : Args)
+-- Read off the code: a count goes once round. The grants are cleared, and then there are two runs, and no loop beside them
+two_runs : (drops : List Symbol)
     × (trace (code.function).body end
-    ≡ calls (fn "core::slice::edits::slice+T::fill" bytes)
-    (calls (fn₀ "arbiter::first_station")
-    (calls (fn₀ "thermometer::count_run") (calls (fn₀ "thermometer::count_run") (calls (fn₀ "thermometer::adder::count") (calls (fn₀ "arbiter::decide") (leaves end)))))))
+    ≡ calls (named "core::slice::edits::slice+T::fill" drops)
+    (runs "arbiter::first_station"
+    (runs "thermometer::count_run" (runs "thermometer::count_run" (runs "thermometer::adder::count" (runs "arbiter::decide" (leaves end)))))))
 two_runs = (_, refl)
 
 pub count_run-half-requires-clause-code_value : goal.count_run-half-requires-clause-code_value

@@ -23,7 +23,7 @@ returns c =
     (step_adds _ _ _ a.picks.coded c.requires.code_value c.requires.request_bound)
     (step_whole _ _ _ a.picks.coded c.requires.code_value c.requires.request_bound)
 
--- N3, read off the code: a step is ten operations, without a loop, a condition or a call
+-- Read off the code: a step is ten operations, without a loop, a condition or a call
 no_loop : trace (code.function).body end
     ≡ computes (computes (computes (computes (computes (computes (computes (computes (computes (computes (leaves end))))))))))
 no_loop = refl

@@ -5,16 +5,14 @@ use Rattle.arbiter.specs.Answers.Laws.{answered_writes}
 use Rattle.arbiter.specs.Cycle.{questions, granting, asking}
 use Rattle.arbiter.specs.Decisions.{decision}
 use mathlib.Core.Path.{refl, ◌≡◌}
-use Rattle.arbiter.specs.Trace.{trace, end, calls, leaves}
-use mir.Syntax.{Args, fn, fn₀, method, given}
+use Rattle.arbiter.specs.Trace.{bound, trace, end, calls, runs, leaves}
 use Rattle.arbiter.proofs.engine.RoundRobin.cycle.Code as code
 use Rattle.arbiter.proofs.engine.RoundRobin.cycle.Goals as goal
 
--- Read off the code: a cycle decides once
-one_arbitration : (self : Args) × (engine : Args)
-    × (trace (code.function).body end
-    ≡ calls (method (given 1) 1 self) (calls (fn "arbiter::engine::arbitrate" engine) (calls (fn₀ "arbiter::State::answer") (leaves end))))
-one_arbitration = (_, _, refl)
+-- Read off the code: a cycle reads the state and decides once
+one_arbitration : trace (code.function).body end
+    ≡ calls (bound 1 1) (runs "arbiter::engine::arbitrate" (runs "arbiter::State::answer" (leaves end)))
+one_arbitration = refl
 
 pub returns : goal.returns
 returns g c =

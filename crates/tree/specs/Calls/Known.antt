@@ -1,0 +1,26 @@
+-- The tree's questions on small cases, by computing.
+-- Assumes nothing.
+use Rattle.std.specs.Prelude.{ℕ, ◌≡◌, refl, [], ◌∷◌, None, Some}
+use Rattle.arbiter.specs.Questions.Known.{numbers, places}
+use Rattle.tree.specs.Calls.{state_questions, questions}
+
+pub record KnownTreeQuestions : Type 0 where
+  -- 1,024 stations are served and 1,025 are not, in an opening and in a cycle, which goes on to 5
+  pub opening_widths : numbers (state_questions 1024 1 (Some 1023) ∷ state_questions 1025 1 (Some 1023) ∷ []) ≡ 0 ∷ 1 ∷ []
+  pub cycle_widths : numbers (questions 1024 1 (Some 1023) [] 0 0 ∷ questions 1025 1 (Some 1023) [] 0 0 ∷ []) ≡ 5 ∷ 1 ∷ []
+  -- in each of these but the last the question that refuses is the first of all that would: 1, 2, 3, 4, 5, 6, 7 and 8
+  pub order : numbers (questions 0 2 (Some 6) (2 ∷ []) 1 1
+      ∷ questions 6 2 (Some 6) (2 ∷ []) 1 1
+      ∷ questions 4 2 (Some 4) (2 ∷ []) 1 1
+      ∷ questions 4 1 (Some 4) (2 ∷ []) 1 1
+      ∷ questions 4 1 None (2 ∷ []) 1 1
+      ∷ questions 4 1 None (1 ∷ 0 ∷ 0 ∷ 2 ∷ []) 1 1
+      ∷ questions 4 1 None (1 ∷ 0 ∷ 0 ∷ 2 ∷ []) 4 1
+      ∷ questions 4 1 None (1 ∷ 0 ∷ 0 ∷ 2 ∷ []) 4 8
+      ∷ questions 4 1 None (1 ∷ 0 ∷ 0 ∷ 1 ∷ []) 4 8
+      ∷ [])
+      ≡ 1 ∷ 2 ∷ 3 ∷ 4 ∷ 5 ∷ 6 ∷ 7 ∷ 8 ∷ 0 ∷ []
+  pub place : places (questions 4 1 None (1 ∷ 0 ∷ 0 ∷ 2 ∷ []) 4 8 ∷ []) ≡ 3 ∷ []
+
+pub known : KnownTreeQuestions
+known = record { opening_widths = refl; cycle_widths = refl; order = refl; place = refl }
