@@ -1,9 +1,9 @@
--- What a tracer sees of a function's code: where it computes something and which functions it calls, in their order; what stands under a
--- condition, what is repeated, and where a loop or the function is left. Copies are passed over.
+-- What a tracer sees of a function's code: where it computes something, which functions it calls and which tables it reads, in their
+-- order; what stands under a condition, what is repeated, and where a loop or the function is left. Copies are passed over.
 -- Assumes nothing.
 use Rattle.std.specs.Prelude.{ℕ, Bool, true, false, ◌&&◌, List, [], ◌∷◌, ◌++◌}
 use Rattle.std.proofs.Math.Bool as Bool
-use mir.Syntax.{Symbol, Dict, impl, given, Dicts, dnil, dcons, Callee, fn, method, forked, awaited, prim, Opd, Rv, rv_opd, op2, op1, addr_of, aggregate, repeat, repeat_p, select}
+use mir.Syntax.{Ty, Symbol, Dict, impl, given, Dicts, dnil, dcons, Callee, fn, method, forked, awaited, prim, Opd, Rv, rv_opd, op2, op1, addr_of, aggregate, repeat, repeat_p, select}
 use mir.Syntax.{Body, skip, seq, assign, block, loop, cond, switch, exit, return, call, unreachable, call_v, lend_static, Arms, arm, default, no_default}
 pub mod Known
 
@@ -14,13 +14,14 @@ pub data Called : Type 0 where
   bound : ℕ → ℕ → Called
   other : Called
 
--- each but `end` has what comes after it last. `either` has a condition's two sides; `chooses` has the value by which an arm is chosen and
+-- Each but `end` has what comes after it last. `reads` has the type of a constant in memory, a table. `either` has a condition's two sides; `chooses` has the value by which an arm is chosen and
 -- the arms, each a `case` with its keys and then the other arms
 pub data Trace : Type 0 where
   end : Trace
   computes : Trace → Trace
   calls : Called → Trace → Trace
   calls_pointer : Trace → Trace
+  reads : Ty → Trace → Trace
   leaves : Trace → Trace
   either : Trace → Trace → Trace → Trace
   chooses : Opd → Trace → Trace → Trace
@@ -31,12 +32,27 @@ pub data Trace : Type 0 where
 abbrev pub runs : Symbol → Trace → Trace
 runs f t = calls (named f []) t
 
+-- where a `?` leaves: of an Option it returns none, of a Result its error
+abbrev pub tries_option : Opd → Trace → Trace
+tries_option on t =
+    runs "core::option::OptionTry::branch"
+    (chooses on (case (0 ∷ []) end (case (1 ∷ []) (runs "core::option::OptionFromResidualNoValue::from_residual" (leaves end)) end)) t)
+
+abbrev pub tries_result : Opd → Trace → Trace
+tries_result on t =
+    runs "core::result::ResultTry::branch"
+    (chooses on
+    (case (0 ∷ []) end
+    (case (1 ∷ []) (calls (named "core::result::ResultFromResidualErrResidual::from_residual" ("core::convert::AnyFrom::from" ∷ [])) (leaves end)) end))
+    t)
+
 -- there is nothing to see
 abbrev pub silent : Trace → Bool
 silent end = true
 silent (computes t) = false
 silent (calls f t) = false
 silent (calls_pointer t) = false
+silent (reads τ t) = false
 silent (leaves t) = false
 silent (either a b t) = false
 silent (chooses on arms t) = false
@@ -99,7 +115,7 @@ abbrev mutual
   trace (call f xs to) t = calls (called f) t
   trace unreachable t = leaves t
   trace (call_v f sig xs to) t = calls_pointer t
-  trace (lend_static to τ k) t = computes t
+  trace (lend_static to τ k) t = reads τ t
 
   -- some arms: a default has no keys
   pub arms_of : Arms → Trace

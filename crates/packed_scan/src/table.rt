@@ -1,8 +1,11 @@
 // The table by which packed wires are searched: 2,048 entries, one for each byte and each start line 0 to 7. An entry is the first
-// set line of the byte at or above the start, or 8 for none, as change request N2 publishes the table.
+// set line of the byte at or above the start, or 8 for none.
+
+// The table, in memory once.
+pub(crate) static FROM_LINE: [[u8; 256]; 8] = ENTRIES;
 
 // The entries of a start line stand together, by the byte. A row has those of 16 bytes.
-pub(crate) static FROM_LINE: [[u8; 256]; 8] = [
+const ENTRIES: [[u8; 256]; 8] = [
     *b"\
         \x08\x00\x01\x00\x02\x00\x01\x00\x03\x00\x01\x00\x02\x00\x01\x00\
         \x04\x00\x01\x00\x02\x00\x01\x00\x03\x00\x01\x00\x02\x00\x01\x00\

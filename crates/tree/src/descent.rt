@@ -20,8 +20,9 @@ impl Nodes<'_> {
     }
 }
 
-// The child that node u chooses.
-#[tactic(auto, unfolding(rules::specs::Tree::child))]
+// The child that node u chooses, by the number of the pair of its children's values, 4 × left + right: the right one where the left is 0,
+// where the right is 3, and for the pair of 2 and 1; else the left one.
+#[tactic(auto, using(rules::proofs::Tree::Laws::right_pair), unfolding(rules::specs::Tree::child))]
 fn child(nodes: &[u8], u: usize) -> usize
     requires u_in_bounds { 2 * u + 1 < length nodes.now }
     requires u_bound { get_or nodes.now (2 * u) 0 < 4 }
@@ -29,21 +30,9 @@ fn child(nodes: &[u8], u: usize) -> usize
     ensures { result ≡ TreeRule.child nodes.now u }
 {
     let left = 2 * u;
-    let right = 2 * u + 1;
-    if goes_right(nodes[left], nodes[right]) {
-        right
-    } else {
-        left
+    let right = left + 1;
+    match nodes[left] * 4 + nodes[right] {
+        0..=3 | 7 | 9 | 11 | 15 => right,
+        4..=6 | 8 | 10 | 12.. => left,
     }
-}
-
-// The choice at a node whose children have these values, by the number of the pair, 4 × left + right: right where the left is 0,
-// where the right is 3, and for the pair of 2 and 1.
-#[tactic(auto, using(rules::proofs::Tree::Laws::right_pair))]
-fn goes_right(left: u8, right: u8) -> bool
-    requires left_bound { left < 4 }
-    requires right_bound { right < 4 }
-    ensures { result ≡ TreeRule.goes_right left right }
-{
-    matches!(left * 4 + right, 0..=3 | 7 | 9 | 11 | 15)
 }

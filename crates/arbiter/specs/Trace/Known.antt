@@ -2,7 +2,7 @@
 -- Assumes nothing.
 use Rattle.std.specs.Prelude.{◌≡◌, refl, List, [], ◌∷◌, map}
 use mir.Syntax.{tnil, dnil, dcons, impl, given, rattle_abi, Callee, fn, fn₀, method, forked, awaited, prim, loaded, ty_unit, c_unit, opd_true, opd_false, place, op1, op2, rv_opd, addr_of, aggregate, repeat, repeat_p, select, bit_not, bit_and, Body, skip, seq, assign, block, loop, cond, switch, exit, return, call, call_v, lend_static, unreachable, arm, default, no_default, Rv}
-use Rattle.arbiter.specs.Trace.{Called, named, bound, other, Trace, end, computes, calls, calls_pointer, leaves, either, chooses, case, repeats, runs, called, trace}
+use Rattle.arbiter.specs.Trace.{Called, named, bound, other, Trace, end, computes, calls, calls_pointer, reads, leaves, either, chooses, case, repeats, runs, called, trace}
 
 -- a value that is assigned, and a call
 abbrev pub set : Rv → Body
@@ -48,7 +48,7 @@ pub record KnownTraces : Type 0 where
   pub of_one : seen (set (op1 bit_not opd_true)) ≡ shown (computes end)
   pub of_two : seen met ≡ shown (computes end)
   pub of_lanes : seen (set (select opd_true opd_true opd_true)) ≡ shown (computes end)
-  pub constants : seen (lend_static (place 0 []) ty_unit c_unit) ≡ shown (computes end)
+  pub tables : seen (lend_static (place 0 []) ty_unit c_unit) ≡ shown (reads ty_unit end)
   -- what calls
   pub functions : seen asked ≡ shown (runs "f" end)
   pub pointers : seen pointed ≡ shown (calls_pointer end)
@@ -92,7 +92,7 @@ known =
       of_one = refl;
       of_two = refl;
       of_lanes = refl;
-      constants = refl;
+      tables = refl;
       functions = refl;
       pointers = refl;
       exits = refl;

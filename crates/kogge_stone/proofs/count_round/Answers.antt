@@ -1,12 +1,21 @@
 -- `count_round` meets its contract: what comes out of the network, with a 0 before it, is the running codes.
 -- Assumes nothing.
-use Rattle.std.proofs.Common.{ℕ, ◌-◌, ◌≤◌, ◌≡◌, sym, ap, ◌∙◌, List, [], ◌∷◌, length, set, arith, append-nil}
+use Rattle.std.proofs.Common.{ℕ, ◌-◌, ◌≤◌, ◌≡◌, refl, sym, ap, ◌∙◌, List, [], ◌∷◌, length, set, arith, append-nil}
 use Rattle.std.specs.Int.Count.{ones}
 use lib.ListN.{length-take}
 use lib.Seq.{drop-length}
 use borrow.Rule.Slice.PartMut.{put_mid}
 use Rattle.rules.proofs.KoggeStone.Laws as KoggeStoneLaws
+use Rattle.arbiter.specs.Trace.{trace, end, computes, runs, leaves}
+use Rattle.kogge_stone.proofs.count_round.Code as code
 use Rattle.kogge_stone.proofs.count_round.Goals as goal
+
+-- Read off the code: the network runs once, and the grants are read off
+one_network : trace (code.function).body end
+    ≡ computes
+    (runs "thermometer::adder::Picks::new"
+    (computes (computes (computes (runs "kogge_stone::network::run" (runs "kogge_stone::read_off" (leaves end)))))))
+one_network = refl
 
 -- what comes out of the network with a 0 before it, in a buffer l
 led : (l net : List ℕ) → 1 ≤ length l → put_mid 1 (length (set l 0 0) - 1) (set l 0 0) net ≡ 0 ∷ net

@@ -1,11 +1,20 @@
 -- `grant_round` meets its contract: two runs are all stations.
 -- Assumes nothing.
 use Prim.Native.Nat.{◌-◌}
-use mathlib.Core.Path.{◌≡◌}
+use mathlib.Core.Path.{◌≡◌, refl}
 use native.Mathlib.Omega.{arith}
 use lib.ListN.{length}
 use Rattle.kogge_stone.proofs.Grants as Grants
+use Rattle.arbiter.specs.Trace.{trace, end, runs, leaves}
+use Rattle.kogge_stone.proofs.grant_round.Code as code
 use Rattle.kogge_stone.proofs.grant_round.Goals as goal
+
+-- Read off the code: there are two runs, of the stations from the head on and of those before it
+two_runs : trace (code.function).body end
+    ≡ runs "core::slice::reads::slice+T::split_at"
+    (runs "core::slice::reads::slice+T::split_at"
+    (runs "core::slice::slice+T::split_at_mut" (runs "kogge_stone::grant_run" (runs "kogge_stone::grant_run" (leaves end)))))
+two_runs = refl
 
 pub returns : goal.returns
 returns c =

@@ -1,8 +1,15 @@
 -- `grant_run` meets its contract: up to station i of the run the grants are written.
 -- Assumes nothing.
-use Rattle.std.proofs.Common.{sym, ◌∙◌, arith, ext_get_or}
+use Rattle.std.proofs.Common.{◌≡◌, refl, sym, ◌∙◌, arith, ext_get_or}
 use Rattle.kogge_stone.proofs.Grants as Grants
+use Rattle.arbiter.specs.Trace.{trace, end, computes, runs, leaves, either, repeats}
+use Rattle.kogge_stone.proofs.grant_run.Code as code
 use Rattle.kogge_stone.proofs.grant_run.Goals as goal
+
+-- Read off the code: a station is granted or not by its own request and the count before it
+one_grant : trace (code.function).body end
+    ≡ repeats (computes (either end (leaves end) (computes (computes (runs "kogge_stone::grant" (computes (computes end))))))) (leaves end)
+one_grant = refl
 
 pub returns : goal.returns
 returns c =

@@ -1,10 +1,28 @@
 -- `read_off` meets its contract: what is read off the running codes is what the rule grants and decides.
 -- Assumes nothing.
-use Rattle.std.proofs.Common.{rules, ◌≡◌, Some, length, get_or, drop, refl, ◌∙◌}
+use Rattle.std.proofs.Common.{rules, ◌≡◌, [], ◌∷◌, Some, length, get_or, drop, refl, ◌∙◌}
 use Rattle.rules.specs.Lists.{before}
 use Rattle.kogge_stone.specs.Steps.{station}
 use Rattle.kogge_stone.proofs.Counts as Counts
+use Rattle.arbiter.specs.Trace.{named, trace, end, computes, calls, runs, leaves, either}
+use Rattle.kogge_stone.proofs.read_off.Code as code
 use Rattle.kogge_stone.proofs.read_off.Goals as goal
+
+-- Read off the code: nothing is counted again. The grants are written by the counts, and the last code and the place where it is first
+-- reached tell the rest
+no_count : trace (code.function).body end
+    ≡ runs "arbiter::first_station"
+    (runs "kogge_stone::grant_round"
+    (computes
+    (runs "thermometer::adder::count"
+    (computes
+    (either (runs "arbiter::idle" (leaves end)) end
+    (computes
+    (computes
+    (runs "kogge_stone::first_place"
+    (calls (named "core::option::Option::map" ("kogge_stone::fn::read_off::map+FnOnce::call_once" ∷ "kogge_stone::Destruct++none::drop" ∷ []))
+    (runs "arbiter::decide" (leaves end)))))))))))
+no_count = refl
 
 pub returns-then-count-eq0 : goal.returns-then-count-eq0
 returns-then-count-eq0 c =

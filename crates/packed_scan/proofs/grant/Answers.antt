@@ -1,10 +1,26 @@
 -- `grant` meets its contract: the station that it grants has a byte.
 -- Assumes nothing.
-use Rattle.std.proofs.Common.{ℕ, sym, ap, ◌∙◌, ◌++◌, arith}
+use Rattle.std.proofs.Common.{ℕ, ◌≡◌, refl, sym, ap, ◌∙◌, [], ◌∷◌, ◌++◌, arith}
 use Rattle.arbiter.specs.Places.{first, set_lines}
 use Rattle.arbiter.specs.Places.Laws.{zeros_fit}
 use Rattle.packed_scan.specs.Lines.Laws.{one_below, one_decides}
+use mir.Syntax.{Opd}
+use Rattle.arbiter.specs.Trace.{named, trace, end, computes, calls, runs, leaves, chooses, case}
+use Rattle.packed_scan.proofs.grant.Code as code
 use Rattle.packed_scan.proofs.grant.Goals as goal
+
+-- Read off the code: one search finds whom to grant. Its bit is set, and requests and grants are compared
+one_search : (on : Opd)
+    × (trace (code.function).body end
+    ≡ runs "arbiter::first_station"
+    (runs "packed_scan::first_request"
+    (chooses on (case (1 ∷ []) end (case (0 ∷ []) (runs "arbiter::idle" (leaves end)) end))
+    (runs "packed_scan::lines::single"
+    (computes
+    (computes
+    (calls (named "core::cmp::PartialEq::ne" ("core::cmp::slices::RefSlicePartialEq::eq" ∷ "core::cmp::numbers::U8PartialEq::eq" ∷ []))
+    (runs "arbiter::decide" (leaves end)))))))))
+one_search = (_, refl)
 
 pub bounds-grants-station : goal.bounds-grants-station
 bounds-grants-station c =

@@ -1,32 +1,23 @@
 -- `arbitrate` meets its contract: where both groups of questions pass, all do, and the highest byte is in hand.
 -- Assumes nothing.
-use Rattle.std.proofs.Common.{◌≡◌, ◌∙◌, sym, ap, List, [], ◌∷◌, length, replicate, Ok}
+use Rattle.std.proofs.Common.{◌≡◌, ◌∙◌, sym, ap, List, length, replicate, Ok}
 use Rattle.arbiter.specs.Decisions.Laws.{quiet_decides, quiet_grants}
 use Rattle.arbiter.specs.Places.{highest}
 use Rattle.arbiter.specs.Questions.Laws.{read_passed, ready, of_requests}
 use mathlib.Core.Path.{refl}
 use mir.Syntax.{Opd, Symbol}
-use Rattle.arbiter.specs.Trace.{named, bound, Trace, trace, end, computes, calls, runs, leaves, either, chooses, case}
+use Rattle.arbiter.specs.Trace.{named, bound, trace, end, computes, calls, runs, leaves, either, tries_result}
 use Rattle.arbiter.proofs.engine.arbitrate.Code as code
 use Rattle.arbiter.proofs.engine.arbitrate.Goals as goal
-
--- where a `?` leaves
-abbrev tries : Opd → Trace → Trace
-tries on t =
-    runs "core::result::ResultTry::branch"
-    (chooses on
-    (case (0 ∷ []) end
-    (case (1 ∷ []) (calls (named "core::result::ResultFromResidualErrResidual::from_residual" ("core::convert::AnyFrom::from" ∷ [])) (leaves end)) end))
-    t)
 
 -- Read off the code, for every arbiter that grants by the rule: a cycle that is not refused and in which somebody asks calls the
 -- arbiter's `grant` once, and nothing is repeated
 one_count : (on : Opd) × (on₂ : Opd) × (drops : List Symbol)
     × (trace (code.function).body end
     ≡ runs "arbiter::question::state"
-    (tries on
+    (tries_result on
     (runs "arbiter::question::cycle"
-    (tries on₂
+    (tries_result on₂
     (computes
     (either (calls (named "core::slice::edits::slice+T::fill" drops) (runs "arbiter::idle" (leaves end))) end
     (calls (bound 0 0) (leaves end))))))))

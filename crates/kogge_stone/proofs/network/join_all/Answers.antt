@@ -1,9 +1,9 @@
 -- `join_all` meets its contract: what is left of the network gives what the whole of it gives.
 -- Assumes nothing.
 use Prim.Native.Nat.{ℕ}
-use mathlib.Core.Path.{◌≡◌, ap, ◌∙◌}
+use mathlib.Core.Path.{◌≡◌, refl, ap, ◌∙◌}
 use mathlib.Core.Bool.{Bool, ◌||◌}
-use mathlib.Core.List.{List}
+use mathlib.Core.List.{List, [], ◌∷◌}
 use native.Mathlib.Omega.{arith}
 use lib.ListN.{length}
 use Rattle.rules.specs.KoggeStone.{joined, joined_cuts}
@@ -11,7 +11,19 @@ use Rattle.rules.proofs.KoggeStone.Laws as KoggeStoneLaws
 use Rattle.rules.proofs.KoggeStone.Laws.{Left}
 use Rattle.kogge_stone.specs.Steps.{Codes}
 use Rattle.kogge_stone.proofs.Codes.{joined_codes}
+use Rattle.arbiter.specs.Trace.{named, trace, end, computes, calls, runs, leaves, either, repeats}
+use Rattle.kogge_stone.proofs.network.join_all.Code as code
 use Rattle.kogge_stone.proofs.network.join_all.Goals as goal
+
+-- Read off the code: each level copies the codes and joins them once
+one_level : trace (code.function).body end
+    ≡ repeats
+    (computes
+    (either end (leaves end)
+    (calls (named "core::slice::edits::slice+T::copy_from_slice" ("core::clone::U8Clone::clone" ∷ []))
+    (runs "kogge_stone::network::join_at" (computes (computes end))))))
+    (leaves end)
+one_level = refl
 
 -- what holds of a list holds of one that is the same
 as_codes : (m : ℕ) {xs ys : List ℕ} → xs ≡ ys → Codes m ys → Codes m xs

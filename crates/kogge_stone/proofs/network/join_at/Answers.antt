@@ -9,7 +9,22 @@ use Rattle.rules.proofs.KoggeStone.Laws as KoggeStoneLaws
 use Rattle.rules.proofs.Thermometer.Laws.{code_own}
 use Rattle.rules.proofs.Thermometer.Cuts.{reach_none, reach_more, reach_passes}
 use Rattle.kogge_stone.proofs.Codes.{every_code, joins}
+use Rattle.arbiter.specs.Trace.{trace, end, computes, runs, leaves, either, repeats}
+use Rattle.kogge_stone.proofs.network.join_at.Code as code
 use Rattle.kogge_stone.proofs.network.join_at.Goals as goal
+
+-- Read off the code: at each position there is one sum
+one_sum : trace (code.function).body end
+    ≡ repeats
+    (computes
+    (either end (leaves end)
+    (computes
+    (computes
+    (computes
+    (runs "kogge_stone::network::sum"
+    (computes (runs "core::convert::U16FromU8::from" (runs "core::int::u16::min" (computes (computes (computes end))))))))))))
+    (runs "core::convert::U16FromU8::from" (computes (leaves end)))
+one_sum = refl
 
 pub loop-p-init : goal.loop-p-init
 loop-p-init c =

@@ -1,8 +1,16 @@
 -- `run` meets its contract: the requests in the order go through the network.
 -- Assumes nothing.
+use mathlib.Core.Path.{◌≡◌, refl}
 use native.Mathlib.Omega.{arith}
 use Rattle.kogge_stone.proofs.Order as Order
+use Rattle.arbiter.specs.Trace.{trace, end, runs, leaves}
+use Rattle.kogge_stone.proofs.network.run.Code as code
 use Rattle.kogge_stone.proofs.network.run.Goals as goal
+
+-- Read off the code: the requests are put in order and joined once
+one_joining : trace (code.function).body end
+    ≡ runs "arbiter::first_station" (runs "kogge_stone::network::rotate" (runs "kogge_stone::network::join_all" (leaves end)))
+one_joining = refl
 
 pub join_all-requires-clause-codes : goal.join_all-requires-clause-codes
 join_all-requires-clause-codes c =
