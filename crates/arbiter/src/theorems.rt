@@ -8,33 +8,28 @@ ghost use Rattle.arbiter.specs.Trace.Known.{KnownTraces};
 #[tactic(auto, using(crate::proofs::Highest::highest_passes))]
 pub fn highest_passes()
     ensures { HighestPasses }
-{
-}
+{}
 
 /// Where every byte is 0 or 1, nobody asks exactly if the highest byte is 0.
 #[tactic(auto, using(crate::proofs::Highest::highest_silent))]
 pub fn highest_silent()
     ensures { HighestSilent }
-{
-}
+{}
 
 /// Small cases of the questions.
 #[tactic(auto, using(crate::specs::Questions::Known::known))]
 pub fn known_questions()
     ensures { KnownQuestions }
-{
-}
+{}
 
 /// In which order a cycle by the round-robin rule asks its questions, and up to which width.
 #[tactic(auto, using(crate::specs::Cycle::Known::known))]
 pub fn known_cycle_questions()
     ensures { KnownCycleQuestions }
-{
-}
+{}
 
 /// What the tracer sees of small pieces of code.
 #[tactic(auto, using(crate::specs::Trace::Known::known))]
 pub fn known_traces()
     ensures { KnownTraces }
-{
-}
+{}

@@ -6,19 +6,16 @@ ghost use Rattle.backlog.specs.Runs.{AllKept, EachKept};
 #[tactic(auto, using(crate::proofs::Conservation::each_kept))]
 pub fn each_kept()
     ensures { EachKept }
-{
-}
+{}
 
 /// The same for all stations together.
 #[tactic(auto, using(crate::proofs::Conservation::all_kept))]
 pub fn all_kept()
     ensures { AllKept }
-{
-}
+{}
 
 /// Small cases of the numbers, the requests and the order of the questions.
 #[tactic(auto, using(crate::specs::Calls::Known::known))]
 pub fn known_backlog()
     ensures { KnownBacklog }
-{
-}
+{}

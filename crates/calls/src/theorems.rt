@@ -6,39 +6,33 @@ ghost use Rattle.calls.specs.EveryCall.{AdderAnswers, GrantsCounted, HeadAfter, 
 #[tactic(auto, using(crate::proofs::EveryCall::head_after))]
 pub fn head_after()
     ensures { HeadAfter }
-{
-}
+{}
 
 /// A served call counts the 1s in its grant buffer.
 #[tactic(auto, using(crate::proofs::EveryCall::grants_counted))]
 pub fn grants_counted()
     ensures { GrantsCounted }
-{
-}
+{}
 
 /// An answer says that more are pending exactly if some station asks and is not granted.
 #[tactic(auto, using(crate::proofs::EveryCall::more_pending))]
 pub fn more_pending()
     ensures { MorePending }
-{
-}
+{}
 
 /// A refused call counts nothing, returns the state as given, and leaves every buffer as it was.
 pub fn refused_as_given()
     ensures { RefusedAsGiven }
-{
-}
+{}
 
 /// The place of an answer is 0 except for the questions that name one.
 #[tactic(auto, using(crate::proofs::EveryCall::place_zero))]
 pub fn place_zero()
     ensures { PlaceZero }
-{
-}
+{}
 
 /// The adder's place is 0; a refused sum has code 0 and cuts nothing off.
 #[tactic(auto, using(crate::proofs::EveryCall::adder_answers))]
 pub fn adder_answers()
     ensures { AdderAnswers }
-{
-}
+{}

@@ -5,5 +5,4 @@ ghost use Rattle.engines.specs.Calls.Known.{KnownEngineQuestions};
 #[tactic(auto, using(crate::specs::Calls::Known::known))]
 pub fn known_questions()
     ensures { KnownEngineQuestions }
-{
-}
+{}

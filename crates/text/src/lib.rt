@@ -2,10 +2,9 @@
 // other byte stays as it was.
 #![tactic(auto)]
 
-pub mod theorems;
-
 #[cfg(test)]
 mod tests;
+pub mod theorems;
 
 ghost use Rattle.std.specs.Prelude.{[], ◌∷◌, ◌≡◌};
 ghost use Rattle.text.specs.Characters as Characters;

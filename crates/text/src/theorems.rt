@@ -5,5 +5,4 @@ ghost use Rattle.text.specs.Characters.Known.{KnownCharacters};
 #[tactic(auto, using(crate::specs::Characters::Known::known))]
 pub fn known_characters()
     ensures { KnownCharacters }
-{
-}
+{}

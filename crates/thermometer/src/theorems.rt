@@ -6,19 +6,16 @@ ghost use Rattle.thermometer.specs.Runs.{CarriedHigh, CarriedLow};
 #[tactic(auto, using(crate::proofs::Runs::Laws::carried_from_head))]
 pub fn carried_high()
     ensures { CarriedHigh }
-{
-}
+{}
 
 /// So it is before each station from 0 up to the head.
 #[tactic(auto, using(crate::proofs::Runs::Laws::carried_from_zero))]
 pub fn carried_low()
     ensures { CarriedLow }
-{
-}
+{}
 
 /// Small sums, and what the adder refuses.
 #[tactic(auto, using(crate::specs::Adder::Known::known))]
 pub fn known_sums()
     ensures { KnownSums }
-{
-}
+{}

@@ -5,5 +5,4 @@ ghost use Rattle.token_bus.specs.Calls.Known.{KnownBusQuestions};
 #[tactic(auto, using(crate::specs::Calls::Known::known))]
 pub fn known_questions()
     ensures { KnownBusQuestions }
-{
-}
+{}

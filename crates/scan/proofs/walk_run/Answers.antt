@@ -5,7 +5,22 @@ use native.Mathlib.Omega.{arith}
 use lib.ListN.{length-set, length-take}
 use Rattle.rules.proofs.Walk.Laws as WalkLaws
 use Rattle.scan.proofs.Searches as Searches
+use Rattle.std.specs.Prelude.{refl, [], ◌∷◌}
+use mir.Syntax.{Opd}
+use Rattle.arbiter.specs.Trace.{trace, end, computes, runs, leaves, either, chooses, case, repeats}
+use Rattle.scan.proofs.walk_run.Code as code
 use Rattle.scan.proofs.walk_run.Goals as goal
+
+-- Read off the code: there is one loop, over the grants that are left, and a turn of it is one search
+one_search : (on : Opd)
+    × (trace (code.function).body end
+    ≡ repeats
+    (computes
+    (either end (leaves end)
+    (runs "arbiter::search::first_one"
+    (chooses on (case (1 ∷ []) end (case (0 ∷ []) (leaves end) end)) (computes (computes (computes (computes end))))))))
+    (leaves end))
+one_search = (_, refl)
 
 pub slice_bounds-run-end : goal.slice_bounds-run-end
 slice_bounds-run-end c = simp length-take (omega arith)

@@ -4,7 +4,22 @@ use Rattle.std.proofs.Common.{Bool, true, false, ◌≡◌, ◌∙◌, refl, sym
 use mir.Val.{bool_byte}
 use Rattle.rules.specs.Lists.{bit}
 use Rattle.tree.specs.Calls.Laws.{ready, tree_values, tree_decides}
+use mir.Syntax.{Opd}
+use Rattle.arbiter.specs.Trace.{trace, end, runs, leaves, tries_result}
+use Rattle.tree.proofs.arbitrate.Code as code
 use Rattle.tree.proofs.arbitrate.Goals as goal
+
+-- Read off the code: where no question refuses, the tree is built once, and grants once
+one_tree : (on : Opd)
+    × (trace (code.function).body end
+    ≡ runs "tree::question::cycle"
+    (tries_result on
+    (runs "tree::nodes::Nodes::build"
+    (runs "tree::grant"
+    (runs "core::option::Option::is_some"
+    (runs "core::convert::others::UsizeFromBool::from"
+    (runs "arbiter::engine::ServedCycle::pending" (runs "arbiter::decide" (leaves end)))))))))
+one_tree = (_, refl)
 
 pub grant-granted-requires-clause-values : goal.grant-granted-requires-clause-values
 grant-granted-requires-clause-values c =

@@ -4,7 +4,20 @@ use Rattle.std.proofs.Common.{length, ◌∙◌, arith, refl}
 use Rattle.rules.proofs.Walk.Laws.{Walked}
 use Rattle.arbiter.specs.Decisions.{requested}
 use Rattle.arbiter.specs.Decisions.Laws as DecisionsLaws
+use Rattle.std.specs.Prelude.{◌≡◌, List}
+use mir.Syntax.{Symbol}
+use Rattle.arbiter.specs.Trace.{named, trace, end, calls, runs, leaves}
+use Rattle.scan.proofs.ScanRoundRobin.grant.Code as code
 use Rattle.scan.proofs.ScanRoundRobin.grant.Goals as goal
+
+-- Read off the code: the stations are walked once round. The grants are cleared, and then there are two runs, and no loop beside them
+two_runs : (drops : List Symbol)
+    × (trace (code.function).body end
+    ≡ calls (named "core::slice::edits::slice+T::fill" drops)
+    (runs "arbiter::first_station"
+    (runs "scan::walk_run"
+    (runs "scan::walk_run" (runs "arbiter::engine::ServedCycle::pending" (runs "arbiter::decide" (leaves end)))))))
+two_runs = (_, refl)
 
 walked : (c : goal.After-decide)
     → let y = c.args.cycle.now in
