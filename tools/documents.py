@@ -1,5 +1,6 @@
 """Checks, at the top of the repository, that the documents say what is there: names of files, functions and edits, links, counted lines,
-the example of docs/CALLING.md, and what the heads of Laws files say they promise. Prints what is wrong, and ends with status 1 then."""
+the example of docs/CALLING.md, and what the heads of Laws files say they promise; and that each theorem is a function. Prints what is
+wrong, and ends with status 1 then."""
 import glob
 import re
 import sys
@@ -13,13 +14,16 @@ CRATES = {f.split("/")[1] for f in glob.glob("crates/*/src")}
 FILES = {f for f in glob.glob("**/*", recursive=True) if "/out/" not in f} | {".ci/run"}
 WORDS = set(re.findall(r"\w+", " ".join(open(f).read() for f in SOURCES + ["crates.txt", "show"] + glob.glob("examples/*") + glob.glob("tools/show/*"))))
 # words of the toolchain, of the language and of the machine
-OUTSIDE = set("anew antt bash ci crates dyn ErrorKind failed FILE getD itoa kit lseek memcpy memset parse passed python3 rattle rt TimedOut TryFrom txt version zip".split())
+OUTSIDE = set("anew antt bash ci crates dyn ErrorKind failed FILE getD itoa kit lseek memcpy memset parse passed python3 rattle rt rustc TimedOut TryFrom txt version zip".split())
 MACHINE = re.compile(r"rattle-kit-\w+(-plain)?|[0-9a-f]{16}|x86-64(-v\d)?|crates/CRATE/must-fail/NAME.edit|crates/NAME|\.antt")
 # the file of each module that is used under another name
 MODULES = {}
 for source in SOURCES:
     for module, alias in re.findall(r"use Rattle\.([\w.]+) as (\w+)", open(source).read()):
         MODULES.setdefault(alias, "crates/" + module.replace(".", "/") + ".antt")
+# a theorem: a function that takes nothing and does nothing, with a clause
+THEOREM = re.compile(r"^pub fn (\w+)\(\)\n(?:    ensures (?:\w+ )?\{ .+ \}\n)+\{\n?\}$", flags=re.M)
+THEOREMS = {f"{f.split('/')[1]}::{name}" for f in glob.glob("crates/*/src/theorems.rt") for name in THEOREM.findall(open(f).read())}
 wrong = []
 
 
@@ -28,9 +32,13 @@ def is_file(name):
 
 
 def is_named(token):
-    """A file, a folder, an edit, or words that all stand somewhere in the sources."""
+    """A file, a folder, an edit, an item of a crate, or words that all stand somewhere in the sources."""
     if MACHINE.fullmatch(token) or is_file(token):
         return True
+    item = re.fullmatch(r"(\w+)::(\w+)", token)
+    if item and item[1] in CRATES:
+        code = " ".join(open(f).read() for f in SOURCES if f.startswith(f"crates/{item[1]}/src/"))
+        return token in THEOREMS or bool(re.search(rf"\b(fn|mod|struct|enum|trait|type|const|static) {item[2]}\b", code))
     if "*" in token and "/" in token:
         return bool(glob.glob("crates/*/" + token))
     inside = re.fullmatch(r"([A-Z]\w+)\.(\w+)", token)
@@ -77,7 +85,23 @@ for document in DOCUMENTS:
         if at not in FILES:
             wrong.append(f"{document}: no file {link}")
 
-readme, reading, calling = (open(f).read() for f in ("README.md", "docs/READING.md", "docs/CALLING.md"))
+readme, reading, calling, proved = (open(f).read() for f in ("README.md", "docs/READING.md", "docs/CALLING.md", "docs/PROVED.md"))
+# PROVED has every theorem, in the first cell of a row, and no other
+listed = {name for row in re.findall(r"^\|([^|]*)\|", proved, flags=re.M) for name in re.findall(r"`(\w+::\w+)`", row)}
+wrong += [f"docs/PROVED.md: {name} is no theorem" for name in sorted(listed - THEOREMS)]
+wrong += [f"docs/PROVED.md: {name} is missing" for name in sorted(THEOREMS - listed)]
+for file in glob.glob("crates/*/src/theorems.rt"):
+    if len(re.findall(r"\bfn\b", re.sub(r"//.*", "", open(file).read()))) != len(THEOREM.findall(open(file).read())):
+        wrong.append(f"{file}: a function that is no theorem, which takes nothing, does nothing and has a clause")
+    root = file.replace("theorems.rt", "lib.rt")
+    if "\npub mod theorems;\n" not in open(root).read():
+        wrong.append(f"{root}: no line 'pub mod theorems;'")
+# and every lemma that is read off a function's code
+traces = set(re.findall(r"^\| `(\w+/proofs/[\w/]+)` \| `(\w+)` \|", proved, flags=re.M))
+found = {(f.removeprefix("crates/").removesuffix("/Answers.antt"), lemma) for f in SOURCES if f.endswith("/Answers.antt")
+         for lemma in re.findall(r"^(\w+) :(?:(?!\n\n).)*?\btrace \(code\.function\)\.body", open(f).read(), flags=re.M | re.S)}
+wrong += [f"docs/PROVED.md: {f} has no {lemma} that is read off its code" for f, lemma in sorted(traces - found)]
+wrong += [f"docs/PROVED.md: {lemma} of {f} is missing" for f, lemma in sorted(found - traces)]
 if readme.count("\n") >= 250:
     wrong.append("README.md has 250 lines or more")
 total = 0

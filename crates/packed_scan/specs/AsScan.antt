@@ -1,16 +1,11 @@
 -- 02, N2: "Its turns equal the plain scan's on the unpacked wires". The packed scan beside the plain scan, cycle by cycle, each way.
 -- Assumes nothing.
-use Rattle.std.specs.Prelude.{ℕ, ◌<◌, ◌≡◌, List, ◌++◌, length}
-use Rattle.rules.specs.Head.{Head}
+use Rattle.std.specs.Prelude.{ℕ, ◌≡◌, List, length}
 use Rattle.rules.specs.Packing.{packed_length, pack, unpack}
-use Rattle.rules.specs.RoundRobin.{start, granted}
 use Rattle.arbiter.specs.declared.State.{State}
 use Rattle.arbiter.specs.Answers.{number}
 use Rattle.arbiter.specs.Cycle as RoundRobinCalls
-use Rattle.arbiter.specs.Decisions.{requested}
-use Rattle.arbiter.specs.Places.{first, set_lines}
 use Rattle.packed_scan.specs.Calls as PackedCalls
-use Rattle.packed_scan.specs.Lines.{Packed}
 
 -- What the packed scan serves, the plain scan serves on the unpacked wires, with any grant buffer of N bytes: the answer is the same,
 -- and its grants are the packed ones unpacked
@@ -27,9 +22,3 @@ ServedPacked =
     (s : State) (wires bytes former : List ℕ) → let o = RoundRobinCalls.cycle s wires bytes in
     number o.answer ≡ 0 → s.picks ≡ 1 → length former ≡ packed_length s.width
     → PackedCalls.cycle s (pack wires) former ≡ record { answer = o.answer; written = pack o.written }
-
--- the first line that is set, once round from the head, is whom the rule grants
-abbrev pub RoundGranted : Type 0
-RoundGranted =
-    (n : ℕ) (packed : List ℕ) → Packed n packed → (h : Head) → start h < n
-    → first (set_lines (start h) packed ++ set_lines 0 packed) ≡ first (granted n 1 h (requested (unpack n packed)))

@@ -1,9 +1,12 @@
 -- Packed requests that have passed the questions about them, the line that an entry of the table names, and what a search in a byte
 -- finds.
 -- Assumes nothing.
-use Rattle.std.specs.Prelude.{ℕ, ◌+◌, ◌*◌, ◌/◌, ◌%◌, ◌≤◌, ◌≡◌, cond, ltb, List, [], length, get_or, Option, None, Some}
-use Rattle.rules.specs.Packing.{packed_length, first_line}
-use Rattle.arbiter.specs.Places.{set_lines}
+use Rattle.std.specs.Prelude.{ℕ, ◌+◌, ◌*◌, ◌/◌, ◌%◌, ◌≤◌, ◌<◌, ◌≡◌, cond, ltb, List, [], ◌++◌, length, get_or, Option, None, Some}
+use Rattle.rules.specs.Head.{Head}
+use Rattle.rules.specs.Packing.{packed_length, unpack, first_line}
+use Rattle.rules.specs.RoundRobin.{start, granted}
+use Rattle.arbiter.specs.Decisions.{requested}
+use Rattle.arbiter.specs.Places.{first, set_lines}
 use Rattle.arbiter.specs.Questions.{max_width}
 pub mod Laws
 
@@ -25,3 +28,9 @@ through byte (Some line) = Some (8 * byte + line)
 -- the first set line from a line on in that line's byte
 abbrev pub in_byte : ℕ → List ℕ → Option ℕ
 in_byte from packed = through (from / 8) (listed (first_line (get_or packed (from / 8) 0) (from % 8)))
+
+-- the first line that is set, once round from the head, is whom the rule grants
+abbrev pub RoundGranted : Type 0
+RoundGranted =
+    (n : ℕ) (packed : List ℕ) → Packed n packed → (h : Head) → start h < n
+    → first (set_lines (start h) packed ++ set_lines 0 packed) ≡ first (granted n 1 h (requested (unpack n packed)))

@@ -1,6 +1,8 @@
-//! The packed scan's turns are the plain scan's. No function here does anything: its clause is a theorem, stated in `specs/AsScan.antt`.
-ghost use Rattle.packed_scan.specs.AsScan.{RoundGranted, ServedPacked, ServedUnpacked};
+//! The packed scan's turns are the plain scan's. No function here does anything: its clause is a theorem, stated in
+//! `specs/AsScan.antt` and `specs/Lines.antt`.
+ghost use Rattle.packed_scan.specs.AsScan.{ServedPacked, ServedUnpacked};
 ghost use Rattle.packed_scan.specs.Calls.Known.{KnownPackedQuestions};
+ghost use Rattle.packed_scan.specs.Lines.{RoundGranted};
 
 /// What the packed scan serves, the plain scan serves on the unpacked wires, with the same answer and the same grants.
 #[tactic(auto, using(crate::proofs::AsScan::served_unpacked))]
