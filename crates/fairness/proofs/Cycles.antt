@@ -16,7 +16,7 @@ use Rattle.rules.specs.RoundRobin.{start, order, granted, next}
 use Rattle.rules.proofs.RoundRobin.Laws as RoundRobinLaws
 use Rattle.rules.specs.Bus as BusRule
 use Rattle.rules.proofs.Bus.Laws as BusLaws
-use Rattle.fairness.specs.Cycles.{Cycle, Ruled, next_head, Chain, Follows, Waits, total, BoundedPicks, WaitingCycles}
+use Rattle.fairness.specs.Cycles.{Cycle, next_head, Chain, Follows, Waits, total, WaitingCycles}
 
 -- some cycles of a chain, whatever stands before them and after them
 module _ {H C : Type 0} (right : H → C → Type 0) (next : H → C → H) where

@@ -1,6 +1,6 @@
 -- The questions of a cycle by the round-robin rule on small cases, by computing.
 -- Assumes nothing.
-use Rattle.std.specs.Prelude.{ℕ, ◌≡◌, refl, [], ◌∷◌, None, Some}
+use Rattle.std.specs.Prelude.{◌≡◌, refl, [], ◌∷◌, None, Some}
 use Rattle.arbiter.specs.Answers.{number}
 use Rattle.arbiter.specs.Questions.Known.{numbers, places}
 use Rattle.arbiter.specs.Cycle.{opening, questions}

@@ -2,7 +2,7 @@
 -- Assumes nothing.
 use Rattle.std.specs.Prelude.{◌≡◌, refl, List, [], ◌∷◌, map}
 use mir.Syntax.{tnil, dnil, dcons, impl, given, rattle_abi, Callee, fn, fn₀, method, forked, awaited, prim, loaded, ty_unit, c_unit, opd_true, opd_false, place, op1, op2, rv_opd, addr_of, aggregate, repeat, repeat_p, select, bit_not, bit_and, Body, skip, seq, assign, block, loop, cond, switch, exit, return, call, call_v, lend_static, unreachable, arm, default, no_default, Rv}
-use Rattle.arbiter.specs.Trace.{Called, named, bound, other, Trace, end, computes, calls, calls_pointer, reads, leaves, either, chooses, case, repeats, runs, called, trace}
+use Rattle.arbiter.specs.Trace.{named, bound, other, Trace, end, computes, calls_pointer, reads, leaves, either, chooses, case, repeats, runs, called, trace}
 
 -- a value that is assigned, and a call
 abbrev pub set : Rv → Body

@@ -1,6 +1,6 @@
 -- Images on small cases, by computing: their bytes, their heads, and the questions of reading one.
 -- Assumes nothing.
-use Rattle.std.specs.Prelude.{ℕ, ◌≡◌, refl, [], ◌∷◌, None, Some}
+use Rattle.std.specs.Prelude.{◌≡◌, refl, [], ◌∷◌, None, Some}
 use Rattle.arbiter.specs.Questions.Known.{numbers, places}
 use Rattle.one_hot.specs.Calls.{image, head_of, questions}
 

@@ -1,6 +1,6 @@
 -- A cycle that is not refused grants once.
 -- Assumes nothing.
-use Rattle.std.specs.Prelude.{◌≡◌, refl, List, [], ◌∷◌}
+use Rattle.std.specs.Prelude.{◌≡◌, refl, List}
 use mir.Syntax.{Symbol, Opd}
 use Rattle.arbiter.specs.Trace.{named, trace, end, calls, runs, leaves, tries_result}
 use Rattle.packed_scan.proofs.arbitrate.Code as code

@@ -1,6 +1,6 @@
 -- The search goes by bytes.
 -- Assumes nothing.
-use Rattle.std.specs.Prelude.{◌≡◌, refl, List, [], ◌∷◌}
+use Rattle.std.specs.Prelude.{◌≡◌, refl, [], ◌∷◌}
 use mir.Syntax.{Opd}
 use Rattle.arbiter.specs.Trace.{trace, end, computes, runs, leaves, either, chooses, case, tries_option}
 use Rattle.packed_scan.proofs.first_request.Code as code

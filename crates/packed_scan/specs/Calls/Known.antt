@@ -1,6 +1,6 @@
 -- The packed scan's questions on small cases, by computing.
 -- Assumes nothing.
-use Rattle.std.specs.Prelude.{ℕ, ◌≡◌, refl, [], ◌∷◌, None, Some}
+use Rattle.std.specs.Prelude.{◌≡◌, refl, [], ◌∷◌, None, Some}
 use Rattle.rules.specs.Packing.Known as PackingKnown
 use Rattle.arbiter.specs.Questions.Known.{numbers, places}
 use Rattle.packed_scan.specs.Calls.{state_questions, questions}

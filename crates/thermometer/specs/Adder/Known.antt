@@ -1,6 +1,6 @@
 -- Some sums by computing. Codes are written in binary here.
 -- Assumes nothing.
-use Rattle.std.specs.Prelude.{ℕ, ◌≡◌, refl, Bool, true, false, List, [], ◌∷◌, Result}
+use Rattle.std.specs.Prelude.{ℕ, ◌≡◌, refl, Bool, true, false, Result}
 use Rattle.std.specs.Int.Count.{ones}
 use Rattle.rules.specs.Thermometer.{code, is_code, add, cuts}
 use Rattle.arbiter.specs.declared.refusal.Refusal.{Refusal}

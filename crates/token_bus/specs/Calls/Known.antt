@@ -1,6 +1,6 @@
 -- The bus's questions on small cases, by computing.
 -- Assumes nothing.
-use Rattle.std.specs.Prelude.{ℕ, ◌≡◌, refl, [], ◌∷◌, None, Some}
+use Rattle.std.specs.Prelude.{◌≡◌, refl, [], ◌∷◌, None, Some}
 use Rattle.arbiter.specs.Questions.Known.{numbers, places}
 use Rattle.token_bus.specs.Calls.{state_questions, questions}
 

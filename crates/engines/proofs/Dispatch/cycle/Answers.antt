@@ -1,6 +1,6 @@
 -- The dispatcher runs the engine that is named, once.
 -- Assumes nothing.
-use Rattle.std.specs.Prelude.{◌≡◌, refl, List, [], ◌∷◌}
+use Rattle.std.specs.Prelude.{◌≡◌, refl, [], ◌∷◌}
 use mir.Syntax.{Symbol, Opd, copy, place, variant, field}
 use Rattle.arbiter.specs.Trace.{named, Trace, trace, end, calls, runs, leaves, chooses, case}
 use Rattle.engines.proofs.Dispatch.cycle.Code as code

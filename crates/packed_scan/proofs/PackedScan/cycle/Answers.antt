@@ -1,6 +1,6 @@
 -- A cycle decides once.
 -- Assumes nothing.
-use Rattle.std.specs.Prelude.{◌≡◌, refl, List, [], ◌∷◌}
+use Rattle.std.specs.Prelude.{◌≡◌, refl}
 use Rattle.arbiter.specs.Trace.{trace, end, runs, leaves}
 use Rattle.packed_scan.proofs.PackedScan.cycle.Code as code
 

@@ -1,6 +1,6 @@
 -- A look into a byte asks for its first line.
 -- Assumes nothing.
-use Rattle.std.specs.Prelude.{◌≡◌, refl, List, [], ◌∷◌}
+use Rattle.std.specs.Prelude.{◌≡◌, refl}
 use mir.Syntax.{Opd}
 use Rattle.arbiter.specs.Trace.{trace, end, computes, runs, leaves, tries_option}
 use Rattle.packed_scan.proofs.lines.first_in_byte.Code as code

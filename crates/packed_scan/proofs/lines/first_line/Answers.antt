@@ -1,6 +1,6 @@
 -- An entry of the table tells the first line of a byte.
 -- Assumes nothing.
-use Rattle.std.specs.Prelude.{◌≡◌, refl, List, [], ◌∷◌}
+use Rattle.std.specs.Prelude.{◌≡◌, refl, [], ◌∷◌}
 use mir.Syntax.{Opd}
 use Rattle.arbiter.specs.Trace.{trace, end, computes, runs, leaves, either, chooses, case}
 use Rattle.packed_scan.proofs.lines.first_line.Code as code
