@@ -35,6 +35,7 @@ fn state(width: usize, picks: usize, kind: usize, head: usize) -> State
 }
 
 // Tells an answer by eight numbers.
+#[tactic(auto, using(crate::proofs::Eight::eight))]
 fn put(answer: Answer, out: &mut [usize; 8])
     ensures { out.new ≡ told answer }
 {
@@ -43,16 +44,14 @@ fn put(answer: Answer, out: &mut [usize; 8])
         Ok(count) => (0, 0, count),
         Err(refusal) => (refusal.number(), refusal.place(), 0),
     };
-    *out = [
-        number,
-        place,
-        count,
-        s.width,
-        s.picks,
-        usize::from(s.head.is_some()),
-        s.head.unwrap_or(0),
-        usize::from(answer.more),
-    ];
+    out[0] = number;
+    out[1] = place;
+    out[2] = count;
+    out[3] = s.width;
+    out[4] = s.picks;
+    out[5] = usize::from(s.head.is_some());
+    out[6] = s.head.unwrap_or(0);
+    out[7] = usize::from(answer.more);
 }
 
 /// The plain scan.
