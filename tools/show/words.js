@@ -60,20 +60,15 @@ function unchangedWords(run, cycle) {
   return cycle.head === NONE ? "Nothing changes: there is still no head." : `Nothing changes: the head stays at ${cycle.head}.`;
 }
 
-// What each question asks that the program can refuse by: docs/TURNS.md, "The numbers".
+// What the questions about a line ask, in characters: the library, whose words `show` puts into REFUSALS, speaks of buffers and bytes there.
 const QUESTIONS = {
-  1: () => "Is the number of stations 1 to 1,024?",
-  2: () => "For the tree: is the number of stations a power of two, from 2 on?",
-  3: () => "Are the picks 1 to 8 and no more than the stations, and 1 for tree and bus?",
   5: (run) => (run.bus ? "Has the line a character for each station, a space and one character more?" : "Has the line a character for each station?"),
   8: () => "Is each station's character 0 or 1?",
-  9: () => "Is the acknowledge 0 or 1?",
-  11: () => "Is the first line readable: S, T, P or B, a space, the stations, a space and the picks?",
-  12: () => "Has the input at most 65,536 bytes?",
 };
 
 function refusedWords(run, bytes, refusal) {
-  const question = QUESTIONS[refusal.question]?.(run) ?? "";
+  const words = REFUSALS[refusal.question];
+  const question = QUESTIONS[refusal.question]?.(run) ?? (words ? `${words}.` : "");
   const fault = faultWords(run, bytes, refusal);
   return [`Refused by question ${refusal.question}${question ? ":" : "."}`, question, fault].filter(Boolean).join(" ");
 }

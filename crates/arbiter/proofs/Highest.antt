@@ -5,7 +5,7 @@ use Rattle.arbiter.specs.Questions.Laws as QuestionsLaws
 use Rattle.arbiter.specs.Theorems.{HighestPasses, HighestSilent}
 
 pub highest_passes : HighestPasses
-highest_passes bytes = (QuestionsLaws.highest_served bytes, QuestionsLaws.highest_passes bytes)
+highest_passes buffer bytes = (QuestionsLaws.highest_served buffer bytes, QuestionsLaws.highest_passes buffer bytes)
 
 pub highest_silent : HighestSilent
 highest_silent bytes bits = (all_zero bytes bits, none_asks bytes)

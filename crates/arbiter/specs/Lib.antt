@@ -1,9 +1,6 @@
-pub mod Places
-pub mod Words
 pub mod Refusals
 pub mod Questions
 pub mod Decisions
 pub mod Answers
 pub mod Cycle
-pub mod Trace
 pub mod Theorems

@@ -1,13 +1,14 @@
--- 01, "Questions each call asks, in this order", and those that 02 adds. n is the width, 01's N; m is the pick count; h is the
--- head.
+-- The questions that most calls ask. A call asks its questions one after another, and the first that is answered no refuses it. n is the
+-- width, m the pick count, h the head. A question that one crate alone asks stands with that crate's calls.
 -- Assumes nothing.
-use Rattle.std.specs.Prelude.{ℕ, ◌*◌, ◌/◌, ◌^◌, Bool, true, false, ◌&&◌, List, [], ◌∷◌, map, eqb, ltb, leb, length, drop, None, Some, Result, Ok, Err}
+use Rattle.std.specs.Prelude.{ℕ, Bool, true, false, ◌&&◌, List, [], ◌∷◌, eqb, ltb, leb, length, None, Some, Result, Ok, Err}
 use Rattle.rules.specs.Head.{Head}
-use Rattle.rules.specs.Lists.{range, member}
-use Rattle.rules.specs.Thermometer.{is_code}
+use Rattle.arbiter.specs.declared.State.{State}
+use Rattle.arbiter.specs.declared.refusal.Buffer.{Buffer}
+use Rattle.arbiter.specs.declared.refusal.Buffer.TheVariants.{Requests}
 use Rattle.arbiter.specs.declared.refusal.Refusal.{Refusal}
-use Rattle.arbiter.specs.declared.refusal.Refusal.TheVariants.{Width, TreeWidth, Picks, HeadRange, ReadLength, WriteLength, NodesLength, NotABit, Acknowledge, SecondOne, Code, UnusedBit, WaitingLength, Overflow}
-use Rattle.arbiter.specs.Places.{places, ones, set_lines}
+use Rattle.arbiter.specs.declared.refusal.Refusal.TheVariants.{Width, Picks, HeadRange, ReadLength, WriteLength, NotABit}
+use Rattle.search.specs.Places.{places}
 pub mod Laws
 pub mod Known
 
@@ -19,7 +20,7 @@ Verdict = Result Unit Refusal
 abbrev pub passed : Verdict
 passed = Ok tt
 
--- a question's answer: "No" refuses
+-- a question that is answered no refuses
 abbrev pub refuse_unless : Bool → Refusal → Verdict
 refuse_unless true refusal = passed
 refuse_unless false refusal = Err refusal
@@ -35,45 +36,32 @@ abbrev pub ◌then◌ : {A : Type 0} → Verdict → Result A Refusal → Result
 (Ok _) then b = b
 (Err refusal) then b = Err refusal
 
--- the most stations: 02, N4, "1 to 1,024"
+-- the most stations
 abbrev pub max_width : ℕ
 max_width = 1024
 
--- 1: "Is N in 1 to" the most? "1 reads 1,024" (02, N4)
+-- 1: is the width 1 to the most?
 abbrev pub width : ℕ → Verdict
 width n = refuse_unless (leb 1 n && leb n max_width) Width
 
--- 2: "For the tree, is N a power of two, at least 2?"
-abbrev pub tree_width : ℕ → Verdict
-tree_width n = refuse_unless (member n (map (λ k. 2 ^ k) (range 1 n))) TreeWidth
-
--- the most grants in one cycle: "m is 1 to 8"
+-- the most grants in one cycle
 abbrev pub max_picks : ℕ
 max_picks = 8
 
--- 3: "Is m allowed": 1 to the most, and at most N
+-- 3: is the pick count 1 to the most, and no more than the stations?
 abbrev pub picks : ℕ → ℕ → Verdict
 picks n m = refuse_unless ((leb 1 m && leb m max_picks) && leb m n) Picks
 
--- 3 for an adder, which has no N: 1 to the most
-abbrev pub pick_count : ℕ → Verdict
-pick_count m = refuse_unless (leb 1 m && leb m max_picks) Picks
-
--- 3 for the tree and the bus: "m is 1"; and for the packed scan (02, N2): "3 asks for m 1"
+-- 3 for an arbiter with one pick: is that the pick count?
 abbrev pub one_pick : ℕ → Verdict
 one_pick m = refuse_unless (eqb m 1) Picks
 
--- 4: "Is the head none or below N"
+-- 4: is the head none, or a station?
 abbrev pub head : ℕ → Head → Verdict
 head n None = passed
 head n (Some h) = refuse_unless (ltb h n) HeadRange
 
--- 4 for the bus: "below N", so none is refused
-abbrev pub token : ℕ → Head → Verdict
-token n None = refuse_unless false HeadRange
-token n (Some t) = refuse_unless (ltb t n) HeadRange
-
--- 5: is the buffer to be read "exactly as long as stated"
+-- 5: is the buffer to be read exactly as long as stated?
 abbrev pub read_length : ℕ → ℕ → Verdict
 read_length stated size = refuse_unless (eqb size stated) ReadLength
 
@@ -81,51 +69,18 @@ read_length stated size = refuse_unless (eqb size stated) ReadLength
 abbrev pub write_length : ℕ → ℕ → Verdict
 write_length stated size = refuse_unless (eqb size stated) WriteLength
 
--- 7: "Is the node buffer 2N long?"
-abbrev pub nodes_length : ℕ → ℕ → Verdict
-nodes_length n size = refuse_unless (eqb size (2 * n)) NodesLength
-
--- 8: "Is every byte read 0 or 1", from a place on; "the place of the first that is not"
-abbrev pub bits : ℕ → List ℕ → Verdict
-bits from bytes = refuse_at_first NotABit (places (ltb 1) from bytes)
-
--- 9: "Is acknowledge 0 or 1?"
-abbrev pub acknowledge : ℕ → Verdict
-acknowledge a = refuse_unless (leb a 1) Acknowledge
-
--- 10: "Has a wire image at most one 1"; "the place of the second"
-abbrev pub one_hot : List ℕ → Verdict
-one_hot image = refuse_at_first SecondOne (drop 1 (ones 0 image))
-
--- 13: "are both codes thermometer codes for m"
-abbrev pub codes : ℕ → ℕ → ℕ → Verdict
-codes m a b = refuse_unless (is_code m a && is_code m b) Code
-
--- 14 (02, N2): "with the byte's place, is a set unused bit", a line that is set and no station's
-abbrev pub unused_bits : ℕ → List ℕ → Verdict
-unused_bits n packed = refuse_at_first UnusedBit (map (λ i. i / 8) (set_lines n packed))
-
--- 15 (02, N6): "a waiting buffer not of N numbers"
-abbrev pub waiting_length : ℕ → ℕ → Verdict
-waiting_length n size = refuse_unless (eqb size n) WaitingLength
-
--- the most messages that wait at a station: 02, N6, "4,294,967,295"
-abbrev pub max_waiting : ℕ
-max_waiting = 4294967295
-
--- 16 (02, N6): is there no "number that would pass" the most? The numbers are those after the arrivals; a refusal is "with the lowest
--- such station"
-abbrev pub overflow : List ℕ → Verdict
-overflow numbers = refuse_at_first Overflow (places (ltb max_waiting) 0 numbers)
+-- 8: is every byte of this buffer 0 or 1, from a place on? A refusal names the place of the first that is not
+abbrev pub bits : Buffer → ℕ → List ℕ → Verdict
+bits buffer from bytes = refuse_at_first (NotABit buffer) (places (ltb 1) from bytes)
 
 -- 1, 3 and 4
-abbrev pub state_questions : ℕ → ℕ → Head → Verdict
-state_questions n m h = width n then picks n m then head n h
+abbrev pub state_questions : State → Verdict
+state_questions s = width s.width then picks s.width s.picks then head s.width s.head
 
 -- those of a call that writes what a state holds to a buffer: 1, 3, 4 and 6
-abbrev pub write_questions : ℕ → ℕ → Head → ℕ → ℕ → Verdict
-write_questions n m h stated size = state_questions n m h then write_length stated size
+abbrev pub write_questions : State → ℕ → ℕ → Verdict
+write_questions s stated size = state_questions s then write_length stated size
 
 -- those of a cycle with these requests and a grant buffer of this length, after those about its state: 5, 6 and 8
 abbrev pub cycle_questions : ℕ → List ℕ → ℕ → Verdict
-cycle_questions n requests size = read_length n (length requests) then write_length n size then bits 0 requests
+cycle_questions n requests size = read_length n (length requests) then write_length n size then bits Requests 0 requests

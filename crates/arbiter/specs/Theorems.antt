@@ -3,12 +3,13 @@
 -- Assumes nothing.
 use Rattle.std.specs.Prelude.{ℕ, ◌≤◌, ◌≡◌, ◌↔◌, false, List}
 use Rattle.arbiter.specs.Decisions.{requested}
-use Rattle.arbiter.specs.Places.{Bits, highest}
+use Rattle.search.specs.Places.{Bits, highest}
+use Rattle.arbiter.specs.declared.refusal.Buffer.{Buffer}
 use Rattle.arbiter.specs.Questions.{bits, passed}
 
 -- question 8 passes exactly if the highest byte is at most 1
 abbrev pub HighestPasses : Type 0
-HighestPasses = (bytes : List ℕ) → (bits 0 bytes ≡ passed) ↔ (highest bytes ≤ 1)
+HighestPasses = (buffer : Buffer) (bytes : List ℕ) → (bits buffer 0 bytes ≡ passed) ↔ (highest bytes ≤ 1)
 
 -- where every byte is 0 or 1, nobody asks exactly if the highest is 0
 abbrev pub HighestSilent : Type 0

@@ -1,7 +1,6 @@
-// What arbiters do alike. Each is a state that its kind serves, and a call is a method on it.
+//! What arbiters do alike. Each is a state that its kind serves, and a call is a method on it.
 ghost use lib.Pointwise.{pointwise};
-ghost use Rattle.std.specs.Prelude.{ℕ, eqb, not, nat_eq, ◌&&◌, ◌≡◌, length, Ok};
-ghost use Rattle.rules.specs.Head as Heads;
+ghost use Rattle.std.specs.Prelude.{eqb, not, nat_eq, ◌&&◌, ◌≡◌, length, Ok};
 ghost use Rattle.rules.specs.RoundRobin as RoundRobinRule;
 ghost use Rattle.arbiter.specs.declared.State as States;
 ghost use Rattle.arbiter.specs.Answers as Answers;
@@ -10,54 +9,61 @@ ghost use Rattle.arbiter.specs.Decisions.{requested, decision};
 ghost use Rattle.arbiter.specs.Questions as Questions;
 ghost use Rattle.arbiter.specs.Questions.{◌then◌};
 ghost use Rattle.rules.specs.RoundRobin.{start};
-ghost use Rattle.arbiter.specs.Places.{Bits};
+ghost use Rattle.search.specs.Places.{Bits};
 ghost use Rattle.std.specs.Prelude.{◌≤◌, ◌<◌};
 
 use crate::question::Verdict;
 use crate::refusal::Refusal;
-use crate::{Answer, Decision, State, idle, question};
+use crate::{Answer, Decision, Granted, State, idle, opened, question};
 use rules::Head;
 
-// An arbiter: what it asks about a state, and the state that it serves.
+/// An arbiter: what it asks about a state, and the state that it serves.
 pub trait Arbiter: Copy {
-    ghost questions: { ℕ → ℕ → Heads.Head → Questions.Verdict };
+    ghost questions: { States.State → Questions.Verdict };
 
     ghost state_of: { Self → States.State };
 
-    // The questions about a state, in their order. It has no default: what it promises is the arbiter's own.
-    fn ask(width: usize, picks: usize, head: Head) -> Verdict
-        ensures { result ≡ questions width picks head };
+    /// The questions about a state, in their order.
+    // It has no default: what it promises is the arbiter's own.
+    fn ask(state: &State) -> Verdict
+        ensures { result ≡ questions state.now };
 
-    // The state. It has no default, since a trait sees no field.
-    fn state(self) -> State
-        ensures { result ≡ state_of self };
+    /// The state.
+    // This and the next have no default, since a trait sees no field.
+    fn state(&self) -> &State
+        ensures { result.now ≡ state_of self.now };
 
-    // Opens with no head. Asks what the arbiter asks about a state: each asks 1 and 3, so a width of 1,025 is refused by 1, nine picks
-    // by 3.
-    final fn open(width: usize, picks: usize) -> Answer
-        ensures { result ≡ Answers.opened (questions width picks None) width picks None }
+    /// Takes the next head where a cycle was decided. It says what is granted, or the refusal.
+    fn settle(&mut self, decided: Result<Decision, Refusal>) -> Result<Granted, Refusal>
+        ensures value { result ≡ (Answers.answered (state_of self.old) decided).outcome }
+        ensures state_after { state_of self.new ≡ (Answers.answered (state_of self.old) decided).state };
+
+    /// Opens with no head. Asks what the arbiter asks about a state: each asks 1 and 3, so a width of 1,025 is refused by 1, nine picks
+    /// by 3.
+    final fn open(width: usize, picks: usize) -> Answer<()>
+        ensures { result ≡ (let s = Answers.made width picks None in Answers.opened (questions s) s) }
     {
         Self::opening(width, picks, None)
     }
 
-    // Opens with a head. Asks the same: of 4 stations, head 4 is refused by 4.
-    final fn open_at(width: usize, picks: usize, head: usize) -> Answer
-        ensures { result ≡ Answers.opened (questions width picks (Some head)) width picks (Some head) }
+    /// Opens with a head. Asks the same: of 4 stations, head 4 is refused by 4.
+    final fn open_at(width: usize, picks: usize, head: usize) -> Answer<()>
+        ensures { result ≡ (let s = Answers.made width picks (Some head) in Answers.opened (questions s) s) }
     {
         Self::opening(width, picks, Some(head))
     }
 
-    // Opens with this head or none.
-    final fn opening(width: usize, picks: usize, head: Head) -> Answer
-        ensures { result ≡ Answers.opened (questions width picks head) width picks head }
+    /// Opens with this head or none.
+    final fn opening(width: usize, picks: usize, head: Head) -> Answer<()>
+        ensures { result ≡ (let s = Answers.made width picks head in Answers.opened (questions s) s) }
     {
-        let verdict = Self::ask(width, picks, head);
-        Answer::opened(verdict.map(|()| State { width, picks, head }))
+        let state = State { width, picks, head };
+        opened(Self::ask(&state).map(|()| state))
     }
 }
 
-// A cycle that no question refuses: picks and head of its state, a request for each station, and the grant buffer, which may hold
-// anything. What the questions have answered is true of each such value, so whatever takes one has nothing to ask.
+/// A cycle that no question refuses: picks and head of its state, a request for each station, and the grant buffer, which may hold
+/// anything. What the questions have answered is true of each such value, so whatever takes one has nothing to ask.
 #[derive(Drop)]
 pub struct ServedCycle<'a> {
     pub picks: usize,
@@ -74,8 +80,8 @@ pub struct ServedCycle<'a> {
 }
 
 impl ServedCycle<'_> {
-    // Whether more are pending, where the grants are written and `count` stations are granted: if all picks are used, and somebody asks
-    // who is not granted.
+    /// Whether more are pending, where the grants are written and `count` stations are granted: if all picks are used, and somebody asks
+    /// who is not granted.
     pub fn pending(&self, count: usize) -> bool
         ensures { result ≡ (eqb count self.now.picks && not (pointwise nat_eq self.now.requests.now self.now.grants.now)) }
     {
@@ -90,9 +96,9 @@ fn differ(left: &[u8], right: &[u8]) -> bool
     *left != *right
 }
 
-// An arbiter that grants by the round-robin rule, a byte for each station.
+/// An arbiter that grants by the round-robin rule, a byte for each station.
 pub trait RoundRobin: Arbiter {
-    // Writes the grants of a cycle, and says what it decides. Nothing else of the cycle changes.
+    /// Writes the grants of a cycle, and says what it decides. Nothing else of the cycle changes.
     fn grant(cycle: &mut ServedCycle<'_>) -> Decision
         ensures value { result ≡ decision (length cycle.old.requests.now) cycle.old.picks cycle.old.head (requested cycle.old.requests.now) }
         ensures same_picks { cycle.new.picks ≡ cycle.old.picks }
@@ -101,40 +107,53 @@ pub trait RoundRobin: Arbiter {
         ensures same_reference { cycle.new.grants.ghost_name ≡ cycle.old.grants.ghost_name }
         ensures grants_after { cycle.new.grants.now ≡ RoundRobinRule.grants (length cycle.old.requests.now) cycle.old.picks cycle.old.head (requested cycle.old.requests.now) };
 
-    // One cycle: writes the grants of these requests, and answers with their count, the next state, and whether more are pending.
-    // Asks 1, 3, 4, 5, 6 and 8. With 4 stations, 2 picks, head 3 and all asking it grants 3 and 0, the next head is 1, and more are.
-    final fn cycle(self, requests: &[u8], grants: &mut [u8]) -> Answer
+    /// The questions of a cycle of this state, and what it decides where they pass; then it writes the grants of these requests. Asks 1,
+    /// 3, 4, 5, 6 and 8. The state stays: `advance` and `cycle` take what is decided into it.
+    // Where the highest byte of the requests is 0 nobody asks.
+    final fn arbitrate(
+        state: &State,
+        requests: &[u8],
+        grants: &mut [u8],
+    ) -> Result<Decision, Refusal>
+        ensures value { Answers.answered state.now result ≡ (RoundRobinCalls.cycle state.now requests.now grants.old).answer }
+        ensures grants_after { grants.new ≡ (RoundRobinCalls.cycle state.now requests.now grants.old).written }
+    {
+        question::state(state)?;
+        let high = question::cycle(state.width, requests, grants.len())?;
+        if high == 0 {
+            grants.fill(0);
+            return Ok(idle(state.width, state.head));
+        }
+        let mut cycle = ServedCycle {
+            picks: state.picks,
+            head: state.head,
+            requests,
+            grants,
+        };
+        Ok(Self::grant(&mut cycle))
+    }
+
+    /// One cycle, in place: writes the grants of these requests, takes the next head, and answers with the count of the grants and whether
+    /// more are pending. Asks 1, 3, 4, 5, 6 and 8. With 4 stations, 2 picks, head 3 and all asking it grants 3 and 0, the next head is 1,
+    /// and more are pending.
+    final fn advance(&mut self, requests: &[u8], grants: &mut [u8]) -> Result<Granted, Refusal>
+        ensures value { result ≡ (RoundRobinCalls.cycle (Self.state_of self.old) requests.now grants.old).answer.outcome }
+        ensures state_after { Self.state_of self.new ≡ (RoundRobinCalls.cycle (Self.state_of self.old) requests.now grants.old).answer.state }
+        ensures grants_after { grants.new ≡ (RoundRobinCalls.cycle (Self.state_of self.old) requests.now grants.old).written }
+    {
+        let decided = Self::arbitrate(self.state(), requests, grants);
+        self.settle(decided)
+    }
+
+    /// The same with the state handed in and back.
+    final fn cycle(mut self, requests: &[u8], grants: &mut [u8]) -> Answer<Granted>
         ensures value { result ≡ (RoundRobinCalls.cycle (Self.state_of self) requests.now grants.old).answer }
         ensures grants_after { grants.new ≡ (RoundRobinCalls.cycle (Self.state_of self) requests.now grants.old).written }
     {
-        let s = self.state();
-        let decided = arbitrate::<Self>(s.width, s.picks, s.head, requests, grants);
-        s.answer(decided)
+        let outcome = self.advance(requests, grants);
+        Answer {
+            state: *self.state(),
+            outcome,
+        }
     }
-}
-
-// The questions of a cycle, and what it decides where they pass. Where the highest byte of the requests is 0 nobody asks.
-fn arbitrate<E: RoundRobin>(
-    width: usize,
-    picks: usize,
-    head: Head,
-    requests: &[u8],
-    grants: &mut [u8],
-) -> Result<Decision, Refusal>
-    ensures value { result ≡ (RoundRobinCalls.questions width picks head requests.now (length grants.old) then Ok (decision width picks head (requested requests.now))) }
-    ensures grants_after { grants.new ≡ Answers.if_passed (RoundRobinCalls.questions width picks head requests.now (length grants.old)) (RoundRobinRule.grants width picks head (requested requests.now)) (λ _. grants.old) }
-{
-    question::state(width, picks, head)?;
-    let high = question::cycle(width, requests, grants.len())?;
-    if high == 0 {
-        grants.fill(0);
-        return Ok(idle(width, head));
-    }
-    let mut cycle = ServedCycle {
-        picks,
-        head,
-        requests,
-        grants,
-    };
-    Ok(E::grant(&mut cycle))
 }

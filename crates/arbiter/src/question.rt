@@ -1,33 +1,33 @@
-// The questions of 01, one function for each: `Ok` where a question passes, and else its refusal. A call asks those that concern it
-// in 01's order, and the first that refuses decides.
+//! The questions that most calls ask, one function for each: `Ok` where a question passes, and else its refusal. A call asks those that
+//! concern it in their order, and the first that refuses decides. A question that one crate alone asks stands there.
 ghost use Rattle.std.specs.Prelude.{◌≡◌, Ok};
-ghost use Rattle.arbiter.specs.Places.{highest};
+ghost use Rattle.search.specs.Places.{highest};
 ghost use Rattle.arbiter.specs.Questions as Questions;
 ghost use Rattle.arbiter.specs.Questions.{◌then◌};
 
-use crate::refusal::Refusal;
-use crate::search::{first_above, highest};
-use crate::{MAX_PICKS, MAX_WIDTH};
+use crate::refusal::{Buffer, Refusal};
+use crate::{MAX_PICKS, MAX_WIDTH, State};
 use rules::Head;
+use search::{first_above, highest};
 
-// What a question says.
+/// What a question says.
 pub type Verdict = Result<(), Refusal>;
 
-// The verdict of a question: yes passes, no refuses.
+/// The verdict of a question: yes passes, no refuses.
 pub fn refuse_unless(yes: bool, refusal: Refusal) -> Verdict
     ensures { result ≡ Questions.refuse_unless yes refusal }
 {
     if yes { Ok(()) } else { Err(refusal) }
 }
 
-// Question 1: is the width in 1 to `MAX_WIDTH`?
+/// Question 1: is the width in 1 to `MAX_WIDTH`?
 pub fn width(width: usize) -> Verdict
     ensures { result ≡ Questions.width width }
 {
     refuse_unless((1 <= width) & (width <= MAX_WIDTH), Refusal::Width)
 }
 
-// Question 3: are the picks in 1 to `MAX_PICKS`, and no more than the stations?
+/// Question 3: are the picks in 1 to `MAX_PICKS`, and no more than the stations?
 pub fn picks(width: usize, picks: usize) -> Verdict
     ensures { result ≡ Questions.picks width picks }
 {
@@ -37,14 +37,15 @@ pub fn picks(width: usize, picks: usize) -> Verdict
     )
 }
 
-// Question 3 of an arbiter with one pick: is that the number of the picks?
+/// Question 3 of an arbiter with one pick: is that the number of the picks?
 pub fn one_pick(picks: usize) -> Verdict
     ensures { result ≡ Questions.one_pick picks }
 {
     refuse_unless(picks == 1, Refusal::Picks)
 }
 
-// Question 4: is the head none or a station? A match: with `is_none_or` a cycle of the packed scan took a tenth longer.
+/// Question 4: is the head none or a station?
+// A match: with `is_none_or` a cycle of the packed scan took a tenth longer.
 pub fn head(width: usize, head: Head) -> Verdict
     ensures { result ≡ Questions.head width head }
 {
@@ -54,66 +55,66 @@ pub fn head(width: usize, head: Head) -> Verdict
     }
 }
 
-// Question 5: is the buffer to be read as long as stated? It takes the length alone, as question 6 does: that is all it is about, and a
-// refusal of each is its own.
+/// Question 5: is the buffer to be read as long as stated? It takes the length alone, as question 6 does: that is all it is about, and a
+/// refusal of each is its own.
 pub fn read_length(stated: usize, length: usize) -> Verdict
     ensures { result ≡ Questions.read_length stated length }
 {
     refuse_unless(length == stated, Refusal::ReadLength)
 }
 
-// Question 6: is the buffer to be written as long as stated?
+/// Question 6: is the buffer to be written as long as stated?
 pub fn write_length(stated: usize, length: usize) -> Verdict
     ensures { result ≡ Questions.write_length stated length }
 {
     refuse_unless(length == stated, Refusal::WriteLength)
 }
 
-// Question 8: is every byte from `from` on 0 or 1? The place of a refusal is that of the first that is not.
-pub fn bits(from: usize, bytes: &[u8]) -> Verdict
-    ensures { result ≡ Questions.bits from bytes.now }
+/// Question 8: is every byte from `from` on 0 or 1? A refusal names the buffer, and the place of the first byte that is not.
+pub fn bits(buffer: Buffer, from: usize, bytes: &[u8]) -> Verdict
+    ensures { result ≡ Questions.bits buffer from bytes.now }
 {
     if let Some(place) = first_above(1, from, bytes) {
-        return Err(Refusal::NotABit(place));
+        return Err(Refusal::NotABit(buffer, place));
     }
     Ok(())
 }
 
-// Question 8 of all bytes, with the highest of them where it passes. A place is looked for only where the highest byte shows that
-// there is one.
-pub fn read(bytes: &[u8]) -> Result<u8, Refusal>
-    ensures { result ≡ (Questions.bits 0 bytes.now then Ok (highest bytes.now)) }
+/// Question 8 of all bytes, with the highest of them where it passes. A place is looked for only where the highest byte shows that
+/// there is one.
+pub fn read(buffer: Buffer, bytes: &[u8]) -> Result<u8, Refusal>
+    ensures { result ≡ (Questions.bits buffer 0 bytes.now then Ok (highest bytes.now)) }
 {
     let high = highest(bytes);
     if 1 < high {
-        bits(0, bytes)?;
+        bits(buffer, 0, bytes)?;
     }
     Ok(high)
 }
 
-// Questions 1, 3 and 4.
-pub fn state(width: usize, picks: usize, head: Head) -> Verdict
-    ensures { result ≡ Questions.state_questions width picks head }
+/// Questions 1, 3 and 4.
+pub fn state(state: &State) -> Verdict
+    ensures { result ≡ Questions.state_questions state.now }
 {
-    self::width(width)?;
-    self::picks(width, picks)?;
-    self::head(width, head)
+    width(state.width)?;
+    picks(state.width, state.picks)?;
+    head(state.width, state.head)
 }
 
-// Questions 1, 3, 4 and 6 of a call that writes what a state holds to a buffer.
-pub fn write(width: usize, picks: usize, head: Head, stated: usize, length: usize) -> Verdict
-    ensures { result ≡ Questions.write_questions width picks head stated length }
+/// Questions 1, 3, 4 and 6 of a call that writes what a state holds to a buffer.
+pub fn write(state: &State, stated: usize, length: usize) -> Verdict
+    ensures { result ≡ Questions.write_questions state.now stated length }
 {
-    state(width, picks, head)?;
+    self::state(state)?;
     write_length(stated, length)
 }
 
-// Questions 5, 6 and 8 of a cycle, after those about its state, with the highest byte of the requests where they pass. Its grant
-// buffer has `length` bytes.
+/// Questions 5, 6 and 8 of a cycle, after those about its state, with the highest byte of the requests where they pass. Its grant
+/// buffer has `length` bytes.
 pub fn cycle(width: usize, requests: &[u8], length: usize) -> Result<u8, Refusal>
     ensures { result ≡ (Questions.cycle_questions width requests.now length then Ok (highest requests.now)) }
 {
     read_length(width, requests.len())?;
     write_length(width, length)?;
-    read(requests)
+    read(Buffer::Requests, requests)
 }

@@ -1,8 +1,8 @@
 //! What the questions say. No function here does anything: its clause is a theorem.
 ghost use Rattle.arbiter.specs.Cycle.Known.{KnownCycleQuestions};
 ghost use Rattle.arbiter.specs.Questions.Known.{KnownQuestions};
+ghost use Rattle.arbiter.specs.Refusals.{Numbered, Placed};
 ghost use Rattle.arbiter.specs.Theorems.{HighestPasses, HighestSilent};
-ghost use Rattle.arbiter.specs.Trace.Known.{KnownTraces};
 
 /// Question 8 passes exactly if the highest byte is at most 1.
 #[tactic(auto, using(crate::proofs::Highest::highest_passes))]
@@ -28,8 +28,14 @@ pub fn known_cycle_questions()
     ensures { KnownCycleQuestions }
 {}
 
-/// What the tracer sees of small pieces of code.
-#[tactic(auto, using(crate::specs::Trace::Known::known))]
-pub fn known_traces()
-    ensures { KnownTraces }
+/// Each question has its number, 1 to 23.
+#[tactic(auto, using(crate::specs::Refusals::Laws::numbered))]
+pub fn numbered()
+    ensures { Numbered }
+{}
+
+/// A refusal's place is 0 except for the questions that name one: 8, 10, 14, 16, 17, 22 and 23.
+#[tactic(auto, using(crate::specs::Refusals::Laws::placed))]
+pub fn placed()
+    ensures { Placed }
 {}

@@ -1,12 +1,13 @@
--- What a run keeps: each served cycle adds as many messages as arrive and takes as many as it grants.
+-- What a cycle keeps: served, it adds as many messages as arrive and takes as many as it grants.
 -- Assumes nothing.
-use Rattle.std.proofs.Common.{ℕ, suc, ◌+◌, ◌≡◌, refl, sym, ap, ◌∙◌, arith, List, [], ◌∷◌, Bool, eqb, length, get_or, eqb-true}
+use Rattle.std.proofs.Common.{ℕ, suc, ◌+◌, ◌≡◌, refl, sym, ap, ◌∙◌, arith, List, [], ◌∷◌, eqb, length, get_or}
 use Rattle.std.proofs.lemmas.List.Sums.{sum_by-cons}
-use Rattle.std.specs.List.{sum, sum_by}
+use Rattle.std.specs.List.{sum}
 use Rattle.rules.specs.Lists.{bit, count}
 use Rattle.rules.specs.Lists.Laws as ListsLaws
 use Rattle.rules.proofs.RoundRobin.Laws as RoundRobinLaws
 use Rattle.arbiter.specs.declared.Answer.{Answer}
+use Rattle.arbiter.specs.declared.Granted.{Granted}
 use Rattle.arbiter.specs.declared.State.{State}
 use Rattle.arbiter.specs.Answers as Answers
 use Rattle.arbiter.specs.Answers.{number}
@@ -15,7 +16,7 @@ use Rattle.engines.specs.declared.Engine.{Engine}
 use Rattle.engines.specs.Calls as EngineCalls
 use Rattle.backlog.specs.Calls.{BacklogEffect, arrived, requests, cycle}
 use Rattle.backlog.specs.Calls.Laws.{lent_passed, passed_cycle, backlog_served, served_passes, granted_wait, arrived_length, arrived_at, taken_length, taken_at}
-use Rattle.backlog.specs.Runs.{Call, Made, run, served, Finds, now_waiting, granted, EachKept, AllKept}
+use Rattle.backlog.specs.Kept.{KeptAtEach, KeptInAll}
 
 -- four lists of one length, of which at each place the first two make what the others do, the third by whether it holds a 1: so do the
 -- sums of them
@@ -39,14 +40,14 @@ sums_kept (x ∷ xs) [] gs zs a b c each = absurd (omega (arith, a))
 sums_kept (x ∷ xs) (y ∷ ys) [] zs a b c each = absurd (omega (arith, b))
 sums_kept (x ∷ xs) (y ∷ ys) (g ∷ gs) [] a b c each = absurd (omega (arith, c))
 
--- a served call
+-- a served cycle
 module _ (e : Engine) (s : State) (arrivals waiting grants nodes : List ℕ) (z : number (cycle e s arrivals waiting grants nodes).answer ≡ 0) where
   abbrev left : BacklogEffect
   left = cycle e s arrivals waiting grants nodes
 
   -- keeps the messages of each station
-  pub each_kept_once : (w : ℕ) → get_or waiting w 0 + get_or arrivals w 0 ≡ bit (requested left.grants w) + get_or left.waiting w 0
-  each_kept_once w =
+  pub kept_at : (w : ℕ) → get_or waiting w 0 + get_or arrivals w 0 ≡ bit (requested left.grants w) + get_or left.waiting w 0
+  kept_at w =
       let p = served_passes e s arrivals waiting grants nodes z in
       let is = passed_cycle e s arrivals waiting grants nodes p in
       let l = lent_passed e s arrivals waiting grants nodes p in
@@ -59,8 +60,8 @@ module _ (e : Engine) (s : State) (arrivals waiting grants nodes : List ℕ) (z 
       (λ f. omega (arith, at, taken_at after o.grants w, ap bit f)))
 
   -- and of all
-  pub all_kept_once : sum arrivals + sum waiting ≡ Answers.count left.answer + sum left.waiting
-  all_kept_once =
+  pub kept_all : sum arrivals + sum waiting ≡ Answers.count left.answer + sum left.waiting
+  kept_all =
       let p = served_passes e s arrivals waiting grants nodes z in
       let is = passed_cycle e s arrivals waiting grants nodes p in
       let l = lent_passed e s arrivals waiting grants nodes p in
@@ -72,49 +73,13 @@ module _ (e : Engine) (s : State) (arrivals waiting grants nodes : List ℕ) (z 
       let kept =
       sums_kept waiting arrivals left.grants left.waiting (l.came ∙ sym l.counted)
       (long ∙ sym l.counted)
-      (ap (λ (o : BacklogEffect). length o.waiting) is ∙ taken_length after _ ∙ arrived_length waiting arrivals) each_kept_once in
+      (ap (λ (o : BacklogEffect). length o.waiting) is ∙ taken_length after _ ∙ arrived_length waiting arrivals) kept_at in
       let counts : count (λ g. eqb g 1) left.grants ≡ Answers.count left.answer =
-      rw (r.granted, rule) (sym (ap (λ (a : Answer). Answers.count a) r.answers)) in
+      rw (r.granted, rule) (sym (ap (λ (a : Answer Granted). Answers.count a) r.answers)) in
       rw counts at kept
 
--- so does a run: `arrives` is what comes in, `goes` what is taken and `holds` what waits, of one station or of all
-module _ (arrives goes : Made → ℕ) (holds : List ℕ → ℕ)
-    (once : (s : State) (c : Call) → let o = cycle c.engine s c.arrivals c.waiting c.grants c.nodes in
-    let made : Made = record { call = c; left = o } in
-    number o.answer ≡ 0 → arrives made + holds c.waiting ≡ goes made + holds o.waiting) where
-  kept : (s : State) (calls : List Call) (start : List ℕ) → let cycles = served (run s calls) in
-      Finds start cycles → sum_by arrives cycles + holds start ≡ sum_by goes cycles + holds (now_waiting start cycles)
-  kept s [] start finds = refl
-  kept s (c ∷ cs) start finds =
-      let o = cycle c.engine s c.arrivals c.waiting c.grants c.nodes in
-      let made : Made = record { call = c; left = o } in
-      let rest = served (run o.answer.state cs) in
-      ListsLaws.split (eqb (number o.answer) 0)
-      (λ t.
-      let found : (c.waiting ≡ start) × Finds o.waiting rest = rw t at finds in
-      rw t
-      (omega (
-        arith,
-        ap holds found.0,
-        once s c (eqb-true _ 0 t),
-        kept o.answer.state cs o.waiting found.1,
-        sum_by-cons arrives made rest,
-        sum_by-cons goes made rest,
-      )))
-      (λ f. rw f (kept o.answer.state cs start (rw f at finds)))
+pub kept_at_each : KeptAtEach
+kept_at_each e s arrivals waiting grants nodes z w = kept_at e s arrivals waiting grants nodes z w
 
--- a count as a sum
-sum_bits : (p : Made → Bool) (cs : List Made) → sum_by (λ c. bit (p c)) cs ≡ count p cs
-sum_bits p [] = refl
-sum_bits p (c ∷ cs) = omega (arith, sum_by-cons (λ c. bit (p c)) c cs, sum_bits p cs)
-
-pub each_kept : EachKept
-each_kept s calls start w finds =
-    rw (← sum_bits (granted w) (served (run s calls)))
-    (kept (λ c. get_or c.call.arrivals w 0) (λ c. bit (granted w c)) (λ numbers. get_or numbers w 0)
-    (λ s c z. omega (arith, each_kept_once c.engine s c.arrivals c.waiting c.grants c.nodes z w)) s calls start finds)
-
-pub all_kept : AllKept
-all_kept s calls start finds =
-    kept (λ c. sum c.call.arrivals) (λ c. Answers.count c.left.answer) sum
-    (λ s c z. all_kept_once c.engine s c.arrivals c.waiting c.grants c.nodes z) s calls start finds
+pub kept_in_all : KeptInAll
+kept_in_all e s arrivals waiting grants nodes z = kept_all e s arrivals waiting grants nodes z

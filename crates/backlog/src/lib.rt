@@ -1,6 +1,5 @@
-// Messages waiting (02, N6): a line model over the engines that grant by the round-robin rule. It has a number for each station, of
-// messages waiting; each cycle adds the arrivals, lets every station ask that has a message waiting, and takes one from each granted
-// station.
+//! Messages waiting: a line model over the engines that grant by the round-robin rule. It has a number for each station, of messages
+//! waiting; each cycle adds the arrivals, lets every station ask that has a message waiting, and takes one from each granted station.
 #![tactic(auto)]
 
 mod question;
@@ -8,93 +7,99 @@ pub mod theorems;
 
 ghost use Rattle.std.specs.Prelude.{ℕ, true, ◌≡◌, ◌≤◌, ◌<◌, ◌+◌, length, get_or};
 ghost use Rattle.arbiter.specs.Decisions.{requested};
-ghost use Rattle.arbiter.specs.Places.{Bits};
-ghost use Rattle.arbiter.specs.Questions.{max_waiting};
+ghost use Rattle.search.specs.Places.{Bits};
 ghost use Rattle.backlog.specs.Calls as BacklogCalls;
 
-use arbiter::{Answer, MAX_WIDTH, State};
-use engines::{Dispatch, Engine};
+use arbiter::refusal::Refusal;
+use arbiter::{Answer, Granted, MAX_WIDTH, State};
+use engines::Engine;
 
 // A cycle with no more stations than this makes a small array of requests.
 const FEW: usize = 64;
 
-// A state that any of the engines may serve.
+/// A state that any of the engines may serve.
 #[derive(Clone, Copy)]
 pub struct Backlog(pub State);
 
 impl Backlog {
-    // One cycle of an engine: adds the arrivals to the waiting numbers, writes the grants of the stations that then have a message
-    // waiting, takes one from each granted, and answers as the engine's own cycle does. Asks what that asks, but 5 of the arrivals and
-    // 8 not at all, 15 after 6 and 16 last. Only the tree asks about the node buffer and writes it. With 4 stations, one pick, head 2,
-    // waiting numbers 3 0 0 0 and arrivals 0 1 0 0 each engine grants 0: 2 1 0 0 are left, the next head is 1, and more are pending.
+    /// One cycle of an engine, in place: adds the arrivals to the waiting numbers, writes the grants of the stations that then have a
+    /// message waiting, takes one from each granted, and answers as the engine's own cycle does. Asks what that asks, but 5 of the arrivals
+    /// and 8 not at all, 15 after 6 and 16 last. Only the tree asks about the node buffer and writes it. With 4 stations, one pick, head 2,
+    /// waiting numbers 3 0 0 0 and arrivals 0 1 0 0 each engine grants 0: 2 1 0 0 are left, the next head is 1, and more are pending.
     #[tactic(auto, using(crate::specs::Calls::Laws::lent_passed, crate::specs::Calls::Laws::passed_cycle, crate::specs::Calls::Laws::granted_bits, crate::specs::Calls::Laws::granted_wait))]
-    pub fn cycle(
-        self,
+    pub fn advance(
+        &mut self,
         engine: Engine,
         arrivals: &[u8],
         waiting: &mut [u32],
         grants: &mut [u8],
         nodes: &mut [u8],
-    ) -> Answer
+    ) -> Result<Granted, Refusal>
+        ensures value { result ≡ (BacklogCalls.cycle engine self.old.0 arrivals.now waiting.old grants.old nodes.old).answer.outcome }
+        ensures state_after { self.new.0 ≡ (BacklogCalls.cycle engine self.old.0 arrivals.now waiting.old grants.old nodes.old).answer.state }
+        ensures waiting_after { waiting.new ≡ (BacklogCalls.cycle engine self.old.0 arrivals.now waiting.old grants.old nodes.old).waiting }
+        ensures grants_after { grants.new ≡ (BacklogCalls.cycle engine self.old.0 arrivals.now waiting.old grants.old nodes.old).grants }
+        ensures nodes_after { nodes.new ≡ (BacklogCalls.cycle engine self.old.0 arrivals.now waiting.old grants.old nodes.old).nodes }
+    {
+        let state = &self.0;
+        question::cycle(engine, state, arrivals, waiting, grants.len(), nodes.len())?;
+        let decided = if state.width <= FEW {
+            let mut room = [0; FEW];
+            let requests = receive(arrivals, waiting, &mut room);
+            engine.arbitrate(state, requests, grants, nodes)
+        } else {
+            let mut room = [0; MAX_WIDTH];
+            let requests = receive(arrivals, waiting, &mut room);
+            engine.arbitrate(state, requests, grants, nodes)
+        };
+        take(grants, waiting);
+        self.0.settle(decided)
+    }
+
+    /// The same with the state handed in and back.
+    pub fn cycle(
+        mut self,
+        engine: Engine,
+        arrivals: &[u8],
+        waiting: &mut [u32],
+        grants: &mut [u8],
+        nodes: &mut [u8],
+    ) -> Answer<Granted>
         ensures value { result ≡ (BacklogCalls.cycle engine self.0 arrivals.now waiting.old grants.old nodes.old).answer }
         ensures waiting_after { waiting.new ≡ (BacklogCalls.cycle engine self.0 arrivals.now waiting.old grants.old nodes.old).waiting }
         ensures grants_after { grants.new ≡ (BacklogCalls.cycle engine self.0 arrivals.now waiting.old grants.old nodes.old).grants }
         ensures nodes_after { nodes.new ≡ (BacklogCalls.cycle engine self.0 arrivals.now waiting.old grants.old nodes.old).nodes }
     {
-        let s = self.0;
-        let verdict = engine
-            .ask(s.width, s.picks, s.head)
-            .and_then(|()| question::lent(
-                engine,
-                s.width,
-                arrivals,
-                waiting,
-                grants.len(),
-                nodes.len(),
-            ));
-        if let Err(refusal) = verdict {
-            return s.answer(Err(refusal));
+        let outcome = self.advance(engine, arrivals, waiting, grants, nodes);
+        Answer {
+            state: self.0,
+            outcome,
         }
-        add(arrivals, waiting);
-        let answer = if s.width <= FEW {
-            let mut room = [0; FEW];
-            let requests = write_requests(waiting, &mut room);
-            Dispatch(s).cycle(engine, requests, grants, nodes)
-        } else {
-            let mut room = [0; MAX_WIDTH];
-            let requests = write_requests(waiting, &mut room);
-            Dispatch(s).cycle(engine, requests, grants, nodes)
-        };
-        take(grants, waiting);
-        answer
     }
 }
 
-// Adds the arrivals to the waiting numbers. By index, as in the two below: of what is written through `zip` a proof knows the length
-// alone.
-fn add(arrivals: &[u8], waiting: &mut [u32])
+// Adds the arrivals to the waiting numbers, and lets every station ask that then has a message waiting: writes the requests at the start of
+// `room`, and lends them on. One pass, since reading the numbers is most of a large cycle's time. By index: of what is written through `zip`
+// a proof knows the length alone.
+#[inline(never)]
+fn receive<'a>(arrivals: &[u8], waiting: &mut [u32], room: &'a mut [u8]) -> &'a [u8]
     requires arrivals_len { length arrivals.now ≡ length waiting.old }
-    requires fitting { (i : ℕ) → i < length waiting.old → get_or waiting.old i 0 + get_or arrivals.now i 0 ≤ max_waiting }
-    ensures { waiting.new ≡ BacklogCalls.arrived waiting.old arrivals.now }
-{
-    for i in 0..waiting.len() {
-        waiting[i] += u32::from(arrivals[i]);
-    }
-}
-
-// Lets every station ask that has a message waiting: writes the requests at the start of `room`, and lends them on.
-fn write_requests<'a>(waiting: &[u32], room: &'a mut [u8]) -> &'a [u8]
-    requires { length waiting.now ≤ length room.old }
-    ensures { result.now ≡ BacklogCalls.requests waiting.now }
+    requires room_len { length waiting.old ≤ length room.old }
+    requires fitting { (i : ℕ) → i < length waiting.old → get_or waiting.old i 0 + get_or arrivals.now i 0 ≤ BacklogCalls.max_waiting }
+    ensures waiting_after { waiting.new ≡ BacklogCalls.arrived waiting.old arrivals.now }
+    ensures value { result.now ≡ BacklogCalls.requests (BacklogCalls.arrived waiting.old arrivals.now) }
 {
     let requests = &mut room[..waiting.len()];
     for i in 0..waiting.len() {
-        requests[i] = u8::from(waiting[i] != 0);
+        let number = waiting[i] + u32::from(arrivals[i]);
+        waiting[i] = number;
+        requests[i] = u8::from(number != 0);
     }
     requests
 }
 
 // Takes one from each granted station, whose byte is 1.
+#[inline(never)]
 fn take(grants: &[u8], waiting: &mut [u32])
     requires grants_len { length grants.now ≡ length waiting.old }
     requires bits { Bits grants.now }

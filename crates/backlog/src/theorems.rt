@@ -1,17 +1,17 @@
-//! What a run with messages waiting keeps. No function here does anything: its clause is a theorem, stated in `specs/Runs.antt`.
+//! What a cycle with messages waiting keeps. No function here does anything: its clause is a theorem.
 ghost use Rattle.backlog.specs.Calls.Known.{KnownBacklog};
-ghost use Rattle.backlog.specs.Runs.{AllKept, EachKept};
+ghost use Rattle.backlog.specs.Kept.{KeptAtEach, KeptInAll};
 
-/// At each station, what arrived and what waited at the start are together what was granted and what waits now.
-#[tactic(auto, using(crate::proofs::Conservation::each_kept))]
-pub fn each_kept()
-    ensures { EachKept }
+/// At each station, what waited and what arrived are together what a served cycle grants and leaves waiting.
+#[tactic(auto, using(crate::proofs::Conservation::kept_at_each))]
+pub fn kept_at_each()
+    ensures { KeptAtEach }
 {}
 
 /// The same for all stations together.
-#[tactic(auto, using(crate::proofs::Conservation::all_kept))]
-pub fn all_kept()
-    ensures { AllKept }
+#[tactic(auto, using(crate::proofs::Conservation::kept_in_all))]
+pub fn kept_in_all()
+    ensures { KeptInAll }
 {}
 
 /// Small cases of the numbers, the requests and the order of the questions.

@@ -13,7 +13,8 @@ ghost use Rattle.token_bus.specs.Calls as BusCalls;
 ghost use Rattle.tree.specs.Calls as TreeCalls;
 
 use arbiter::engine::RoundRobin;
-use arbiter::{Answer, State};
+use arbiter::refusal::Refusal;
+use arbiter::{Granted, State};
 use backlog::Backlog;
 use engines::Engine;
 use kogge_stone::KoggeStone;
@@ -34,24 +35,23 @@ fn state(width: usize, picks: usize, kind: usize, head: usize) -> State
     }
 }
 
-// Tells an answer by eight numbers.
+// Tells the state after a cycle and what the cycle came to by eight numbers.
 #[tactic(auto, using(crate::proofs::Eight::eight))]
-fn put(answer: Answer, out: &mut [usize; 8])
-    ensures { out.new ≡ told answer }
+fn put(state: &State, outcome: Result<Granted, Refusal>, out: &mut [usize; 8])
+    ensures { out.new ≡ told (record { state = state.now; outcome = outcome }) }
 {
-    let s = answer.state;
-    let (number, place, count) = match answer.outcome {
-        Ok(count) => (0, 0, count),
-        Err(refusal) => (refusal.number(), refusal.place(), 0),
+    let (number, place, count, more) = match outcome {
+        Ok(granted) => (0, 0, granted.count, granted.more),
+        Err(refusal) => (refusal.number(), refusal.place(), 0, false),
     };
     out[0] = number;
     out[1] = place;
     out[2] = count;
-    out[3] = s.width;
-    out[4] = s.picks;
-    out[5] = usize::from(s.head.is_some());
-    out[6] = s.head.unwrap_or(0);
-    out[7] = usize::from(answer.more);
+    out[3] = state.width;
+    out[4] = state.picks;
+    out[5] = usize::from(state.head.is_some());
+    out[6] = state.head.unwrap_or(0);
+    out[7] = usize::from(more);
 }
 
 /// The plain scan.
@@ -71,8 +71,9 @@ pub extern "C" fn ours_scan(
     ensures grants_after { grants.new ≡ (RoundRobinCalls.cycle (given width picks kind head) requests.now grants.old).written }
     ensures extra_stays { extra.new ≡ extra.old }
 {
-    let s = state(width, picks, kind, head);
-    put(Scan(s).cycle(requests, grants), out);
+    let mut arbiter = Scan(state(width, picks, kind, head));
+    let outcome = arbiter.advance(requests, grants);
+    put(&arbiter.0, outcome, out);
 }
 
 /// The thermometer arbiter.
@@ -92,8 +93,9 @@ pub extern "C" fn ours_thermometer(
     ensures grants_after { grants.new ≡ (RoundRobinCalls.cycle (given width picks kind head) requests.now grants.old).written }
     ensures extra_stays { extra.new ≡ extra.old }
 {
-    let s = state(width, picks, kind, head);
-    put(Thermometer(s).cycle(requests, grants), out);
+    let mut arbiter = Thermometer(state(width, picks, kind, head));
+    let outcome = arbiter.advance(requests, grants);
+    put(&arbiter.0, outcome, out);
 }
 
 /// The Kogge-Stone arbiter.
@@ -113,8 +115,9 @@ pub extern "C" fn ours_kogge_stone(
     ensures grants_after { grants.new ≡ (RoundRobinCalls.cycle (given width picks kind head) requests.now grants.old).written }
     ensures extra_stays { extra.new ≡ extra.old }
 {
-    let s = state(width, picks, kind, head);
-    put(KoggeStone(s).cycle(requests, grants), out);
+    let mut arbiter = KoggeStone(state(width, picks, kind, head));
+    let outcome = arbiter.advance(requests, grants);
+    put(&arbiter.0, outcome, out);
 }
 
 /// The tree; `extra` is the node buffer.
@@ -134,8 +137,9 @@ pub extern "C" fn ours_tree(
     ensures grants_after { grants.new ≡ (TreeCalls.cycle (given width picks kind head) requests.now grants.old extra.old).grants }
     ensures extra_after { extra.new ≡ (TreeCalls.cycle (given width picks kind head) requests.now grants.old extra.old).nodes }
 {
-    let s = state(width, picks, kind, head);
-    put(Tree(s).cycle(requests, grants, extra), out);
+    let mut arbiter = Tree(state(width, picks, kind, head));
+    let outcome = arbiter.advance(requests, grants, extra);
+    put(&arbiter.0, outcome, out);
 }
 
 /// The token bus.
@@ -155,8 +159,9 @@ pub extern "C" fn ours_bus(
     ensures grants_after { grants.new ≡ (BusCalls.cycle (given width picks kind head) requests.now grants.old acknowledge).written }
     ensures extra_stays { extra.new ≡ extra.old }
 {
-    let s = state(width, picks, kind, head);
-    put(TokenBus(s).cycle(requests, grants, acknowledge), out);
+    let mut arbiter = TokenBus(state(width, picks, kind, head));
+    let outcome = arbiter.advance(requests, grants, acknowledge);
+    put(&arbiter.0, outcome, out);
 }
 
 /// The packed scan.
@@ -176,8 +181,9 @@ pub extern "C" fn ours_packed(
     ensures grants_after { grants.new ≡ (PackedCalls.cycle (given width picks kind head) requests.now grants.old).written }
     ensures extra_stays { extra.new ≡ extra.old }
 {
-    let s = state(width, picks, kind, head);
-    put(PackedScan(s).cycle(requests, grants), out);
+    let mut arbiter = PackedScan(state(width, picks, kind, head));
+    let outcome = arbiter.advance(requests, grants);
+    put(&arbiter.0, outcome, out);
 }
 
 /// Messages waiting, by the plain scan: `requests` are the arrivals, `extra` the waiting numbers.
@@ -197,9 +203,7 @@ pub extern "C" fn ours_backlog(
     ensures grants_after { grants.new ≡ (BacklogCalls.cycle Engines.Scan (given width picks kind head) requests.now extra.old grants.old []).grants }
     ensures extra_after { extra.new ≡ (BacklogCalls.cycle Engines.Scan (given width picks kind head) requests.now extra.old grants.old []).waiting }
 {
-    let s = state(width, picks, kind, head);
-    put(
-        Backlog(s).cycle(Engine::Scan, requests, extra, grants, &mut []),
-        out,
-    );
+    let mut arbiter = Backlog(state(width, picks, kind, head));
+    let outcome = arbiter.advance(Engine::Scan, requests, extra, grants, &mut []);
+    put(&arbiter.0, outcome, out);
 }

@@ -1,6 +1,7 @@
-// Cycles.
+//! Cycles, by value and in place.
 use crate::{granted, refused, state};
 use arbiter::engine::RoundRobin;
+use arbiter::{Granted, decide};
 use backlog::Backlog;
 use engines::{Dispatch, Engine};
 use kogge_stone::KoggeStone;
@@ -19,6 +20,82 @@ fn scan_grants(rt: HostRuntime) -> Result<(), Fail> {
     assert!(rt; grants == [1, 0, 0, 1]);
     assert!(rt; scan.cycle(&[1, 0, 0, 1], &mut grants) == granted(2, state(4, 2, Some(1)), false));
     assert!(rt; grants == [1, 0, 0, 1]);
+    Ok(())
+}
+
+// In place, each engine and each buffer once more.
+#[test]
+fn scan_advances(rt: HostRuntime) -> Result<(), Fail> {
+    let mut grants = [7; 4];
+    let mut scan = Scan(state(4, 2, Some(3)));
+    let granted = Granted {
+        count: 2,
+        more: true,
+    };
+    assert!(rt; scan.advance(&[1, 1, 1, 1], &mut grants) == Ok(granted));
+    assert!(rt; (scan.0, grants) == (state(4, 2, Some(1)), [1, 0, 0, 1]));
+    assert!(rt; refused(scan.advance(&[1, 2, 1, 1], &mut grants)) == (8, 1));
+    assert!(rt; (scan.0, grants) == (state(4, 2, Some(1)), [1, 0, 0, 1]));
+    Ok(())
+}
+
+#[test]
+fn others_advance(rt: HostRuntime) -> Result<(), Fail> {
+    let mut grants = [7; 4];
+    let mut nodes = [7; 8];
+    let granted = Granted {
+        count: 1,
+        more: true,
+    };
+    let mut tree = Tree(state(4, 1, Some(2)));
+    assert!(rt; tree.advance(&[1, 1, 0, 0], &mut grants, &mut nodes) == Ok(granted));
+    assert!(rt; tree.0 == state(4, 1, Some(1)));
+    let mut bus = TokenBus(state(4, 1, Some(2)));
+    assert!(rt; bus.advance(&[1, 1, 0, 0], &mut grants, 1) == Ok(granted));
+    assert!(rt; bus.0 == state(4, 1, Some(3)));
+    let mut packed = PackedScan(state(11, 1, Some(8)));
+    assert!(rt; packed.advance(&[9, 0], &mut [7; 2]) == Ok(granted));
+    assert!(rt; packed.0 == state(11, 1, Some(1)));
+    let mut dispatch = Dispatch(state(4, 1, Some(2)));
+    assert!(rt;
+        dispatch.advance(Engine::Tree, &[1, 1, 0, 0], &mut grants, &mut nodes) == Ok(granted)
+    );
+    assert!(rt; dispatch.0 == state(4, 1, Some(1)));
+    Ok(())
+}
+
+#[test]
+fn backlog_advances(rt: HostRuntime) -> Result<(), Fail> {
+    let mut waiting = [3, 0, 0, 0];
+    let mut grants = [7; 4];
+    let mut backlog = Backlog(state(4, 1, Some(2)));
+    let arrivals = [0, 1, 0, 0];
+    let outcome = backlog.advance(Engine::Scan, &arrivals, &mut waiting, &mut grants, &mut []);
+    assert!(rt;
+        outcome
+            == Ok(Granted {
+                count: 1,
+                more: true
+            })
+    );
+    assert!(rt; (backlog.0, waiting) == (state(4, 1, Some(1)), [2, 1, 0, 0]));
+    Ok(())
+}
+
+// What a cycle decides, with the state left to be settled.
+#[test]
+fn arbitrates(rt: HostRuntime) -> Result<(), Fail> {
+    let mut grants = [7; 4];
+    let mut nodes = [7; 8];
+    let s = state(4, 1, Some(2));
+    let decided = decide(4, Some(2), 1, Some(0), true);
+    assert!(rt; Scan::arbitrate(&s, &[1, 1, 0, 0], &mut grants) == Ok(decided));
+    assert!(rt; Tree::arbitrate(&s, &[1, 1, 0, 0], &mut grants, &mut nodes) == Ok(decided));
+    assert!(rt;
+        TokenBus::arbitrate(&s, &[1, 1, 0, 0], &mut grants, 0).map(|d| d.next) == Ok(Some(2))
+    );
+    assert!(rt; PackedScan::arbitrate(&s, &[3], &mut [7; 1]) == Ok(decided));
+    assert!(rt; Engine::Tree.arbitrate(&s, &[1, 1, 0, 0], &mut grants, &mut nodes) == Ok(decided));
     Ok(())
 }
 

@@ -1,4 +1,4 @@
-// The examples of docs/CALLS.md: each is tried by a test, a literal for what it says. Nothing here is part of what a controller runs.
+//! The examples of docs/CALLS.md: each is tried by a test, a literal for what it says. Nothing here is part of what a controller runs.
 #![tactic(auto)]
 
 mod cycles;
@@ -9,7 +9,7 @@ mod parts;
 mod texts;
 
 use arbiter::refusal::Refusal;
-use arbiter::{Answer, State};
+use arbiter::{Answer, Granted, State};
 use rules::Head;
 
 // A state.
@@ -18,16 +18,18 @@ pub(crate) fn state(width: usize, picks: usize, head: Head) -> State {
 }
 
 // The answer of a call that is no cycle, is served and leaves this state.
-pub(crate) fn served(state: State) -> Answer {
-    granted(0, state, false)
+pub(crate) fn served(state: State) -> Answer<()> {
+    Answer {
+        state,
+        outcome: Ok(()),
+    }
 }
 
 // The answer of a cycle that is served with this count.
-pub(crate) fn granted(count: usize, state: State, more: bool) -> Answer {
+pub(crate) fn granted(count: usize, state: State, more: bool) -> Answer<Granted> {
     Answer {
-        outcome: Ok(count),
         state,
-        more,
+        outcome: Ok(Granted { count, more }),
     }
 }
 

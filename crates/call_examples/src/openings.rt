@@ -17,8 +17,8 @@ fn opens_alike(rt: HostRuntime) -> Result<(), Fail> {
     assert!(rt; Scan::opening(4, 2, Some(3)) == served(state(4, 2, Some(3))));
     assert!(rt; refused(Scan::opening(4, 2, Some(4)).outcome) == (4, 0));
     assert!(rt; Scan::opening(4, 2, Some(4)).state == State::default());
-    assert!(rt; refused(Scan::ask(4, 2, Some(4))) == (4, 0));
-    assert!(rt; Scan(state(4, 2, None)).state() == state(4, 2, None));
+    assert!(rt; refused(Scan::ask(&state(4, 2, Some(4)))) == (4, 0));
+    assert!(rt; *Scan(state(4, 2, None)).state() == state(4, 2, None));
     Ok(())
 }
 
@@ -63,9 +63,9 @@ fn opens_by_name(rt: HostRuntime) -> Result<(), Fail> {
     assert!(rt; Dispatch::open(Engine::Scan, 6, 2) == served(state(6, 2, None)));
     assert!(rt; refused(Dispatch::open(Engine::Tree, 6, 1).outcome) == (2, 0));
     assert!(rt; Dispatch::open_at(Engine::Tree, 4, 1, 2) == served(state(4, 1, Some(2))));
-    assert!(rt; refused(Engine::Tree.ask(6, 1, None)) == (2, 0));
+    assert!(rt; refused(Engine::Tree.ask(&state(6, 1, None))) == (2, 0));
     assert!(rt; refused(Engine::Tree.ask_nodes(4, 7)) == (7, 0));
-    assert!(rt; refused(Engine::Scan.ask(6, 1, None)) == (0, 0));
+    assert!(rt; refused(Engine::Scan.ask(&state(6, 1, None))) == (0, 0));
     assert!(rt; refused(Engine::Scan.ask_nodes(4, 7)) == (0, 0));
     assert!(rt; refused(nodes_length(4, 7)) == (7, 0));
     Ok(())

@@ -1,9 +1,12 @@
 // What the engines are made of, and the adder.
-use crate::{granted, refused, served, state};
+use crate::{refused, state};
 use arbiter::engine::ServedCycle;
-use arbiter::refusal::Refusal;
-use arbiter::search::{first_nonzero, first_one, highest};
-use arbiter::{Answer, State, decide, first_station, headed, idle, past, question};
+use arbiter::refusal::{Buffer, Refusal};
+use arbiter::{
+    Decision, Granted, State, decide, first_station, headed, idle, opened, past, question,
+};
+use search::{first_above, first_nonzero, first_one, highest};
+use std::fmt::Write;
 use std::test::Fail;
 use thermometer::adder::{self, Picks, Sum};
 
@@ -24,21 +27,44 @@ fn adds(rt: HostRuntime) -> Result<(), Fail> {
 
 #[test]
 fn answers(rt: HostRuntime) -> Result<(), Fail> {
-    let s = state(4, 2, None);
-    assert!(rt; Answer::opened(Err(Refusal::Picks)).state == State::default());
-    assert!(rt; s.answer(Ok(headed(Some(1)))) == served(state(4, 2, Some(1))));
-    assert!(rt; (Refusal::NotABit(2).number(), Refusal::NotABit(2).place()) == (8, 2));
+    assert!(rt; opened(Err(Refusal::Picks)).state == State::default());
+    let mut s = state(4, 2, None);
+    assert!(rt; s.settle(Err(Refusal::Acknowledge)) == Err(Refusal::Acknowledge));
+    assert!(rt; s == state(4, 2, None));
+    assert!(rt; s.settle(Ok(headed(Some(1)))) == Ok(NOBODY));
+    assert!(rt; s == state(4, 2, Some(1)));
+    let bit = Refusal::NotABit(Buffer::Requests, 2);
+    assert!(rt; (bit.number(), bit.place()) == (8, 2));
     assert!(rt; (Refusal::Picks.number(), Refusal::Picks.place()) == (3, 0));
+    Ok(())
+}
+
+// Nobody is granted, and no more are pending.
+const NOBODY: Granted = Granted {
+    count: 0,
+    more: false,
+};
+
+#[test]
+fn says_why(rt: HostRuntime) -> Result<(), Fail> {
+    let mut words = String::new(rt.alloc());
+    write!(words, "{}; ", Refusal::Width)?;
+    write!(words, "{}", Refusal::NotABit(Buffer::Requests, 7))?;
+    assert!(rt;
+        words.as_str() == "the width must be 1 to 1,024; byte 7 of the requests is neither 0 nor 1"
+    );
     Ok(())
 }
 
 #[test]
 fn decides(rt: HostRuntime) -> Result<(), Fail> {
-    let s = state(4, 2, Some(2));
-    assert!(rt; s.answer(Ok(idle(4, Some(1)))) == served(state(4, 2, Some(1))));
-    assert!(rt; s.answer(Ok(idle(4, None))) == served(state(4, 2, Some(3))));
-    let decision = decide(4, Some(2), 2, Some(3), true);
-    assert!(rt; s.answer(Ok(decision)) == granted(2, state(4, 2, Some(0)), true));
+    assert!(rt; (idle(4, Some(1)), idle(4, None)) == (headed(Some(1)), headed(Some(3))));
+    let granted = Granted {
+        count: 2,
+        more: true,
+    };
+    let next = Some(0);
+    assert!(rt; decide(4, Some(2), 2, Some(3), true) == Decision { granted, next });
     assert!(rt; (past(4, 2), past(4, 3), past(4, 9)) == (3, 0, 0));
     assert!(rt; (first_station(Some(2)), first_station(None)) == (2, 0));
     Ok(())
@@ -61,6 +87,7 @@ fn pends(rt: HostRuntime) -> Result<(), Fail> {
 fn searches(rt: HostRuntime) -> Result<(), Fail> {
     assert!(rt; first_one(1, &[1, 0, 1]) == Some(2));
     assert!(rt; first_nonzero(1, &[1, 0, 7]) == Some(2));
+    assert!(rt; first_above(1, 1, &[2, 1, 3]) == Some(2));
     assert!(rt; highest(&[0, 1, 7, 0]) == 7);
     Ok(())
 }
@@ -81,11 +108,11 @@ fn asks_one(rt: HostRuntime) -> Result<(), Fail> {
 
 #[test]
 fn asks_several(rt: HostRuntime) -> Result<(), Fail> {
-    assert!(rt; refused(question::bits(2, &[7, 0, 1, 2])) == (8, 3));
-    assert!(rt; question::read(&[0, 1]) == Ok(1));
-    assert!(rt; refused(question::read(&[0, 2])) == (8, 1));
-    assert!(rt; refused(question::state(0, 9, None)) == (1, 0));
-    assert!(rt; refused(question::write(4, 2, None, 6, 5)) == (6, 0));
+    assert!(rt; refused(question::bits(Buffer::Requests, 2, &[7, 0, 1, 2])) == (8, 3));
+    assert!(rt; question::read(Buffer::Image, &[0, 1]) == Ok(1));
+    assert!(rt; refused(question::read(Buffer::Image, &[0, 2])) == (8, 1));
+    assert!(rt; refused(question::state(&state(0, 9, None))) == (1, 0));
+    assert!(rt; refused(question::write(&state(4, 2, None), 6, 5)) == (6, 0));
     assert!(rt; refused(question::cycle(2, &[0, 2], 3)) == (6, 0));
     assert!(rt; refused(question::cycle(2, &[0, 2], 2)) == (8, 1));
     Ok(())

@@ -4,14 +4,14 @@ use Prim.Native.Nat.{ℕ, ◌<◌, ◌≤◌}
 use mathlib.Core.Path.{◌≡◌, refl, sym, ap, ◌∙◌}
 use Rattle.std.specs.Prelude.{Result, Ok, Err}
 use mathlib.Core.Bool.{Bool, true, false, ◌&&◌}
-use mathlib.Core.List.{List, []}
+use mathlib.Core.List.{List, [], ◌∷◌}
 use native.Mathlib.Omega.{arith}
 use lib.Dec.{eqb, leb}
 use lib.ListN.{length, get_or, replicate, length-replicate}
 use borrow.Author.Tests.{ne_eqb}
 use Rattle.std.specs.Prelude.{Some}
 use Rattle.std.specs.List.{list_any}
-use Rattle.rules.specs.Lists.{range, count}
+use Rattle.rules.specs.Lists.{range, count, member}
 use Rattle.rules.specs.Lists.Laws as ListsLaws
 use Rattle.rules.proofs.Pending.Laws as PendingLaws
 use Rattle.rules.specs.Packing.{pack, unpack}
@@ -21,13 +21,15 @@ use Rattle.rules.specs.Thermometer.{is_code}
 use Rattle.rules.specs.Bus as BusRule
 use Rattle.rules.proofs.Bus.Laws as BusLaws
 use Rattle.arbiter.specs.declared.Answer.{Answer}
+use Rattle.arbiter.specs.declared.Granted.{Granted}
 use Rattle.arbiter.specs.declared.State.{State}
 use Rattle.arbiter.specs.declared.refusal.Refusal.{Refusal}
-use Rattle.arbiter.specs.declared.refusal.Refusal.TheVariants.{Width, TreeWidth, Picks, HeadRange, ReadLength, WriteLength, NodesLength, NotABit, Acknowledge, SecondOne, FirstLine, InputLength, Code, UnusedBit, WaitingLength, Overflow}
+use Rattle.arbiter.specs.declared.refusal.Refusal.TheVariants.{Picks, Code}
 use Rattle.arbiter.specs.Questions.{Verdict, refuse_unless, ◌then◌}
 use Rattle.arbiter.specs.Answers as Answers
-use Rattle.arbiter.specs.Answers.{Effect, moved, served, refused, if_passed, number, place, number_of, place_of}
-use Rattle.arbiter.specs.Refusals as Refusals
+use Rattle.arbiter.specs.Answers.{Effect, moved, with_picks, served, refused, if_passed, number, place, more, number_of, place_of}
+use Rattle.arbiter.specs.Refusals.{placing}
+use Rattle.arbiter.specs.Refusals.Laws.{placed}
 use Rattle.arbiter.specs.Answers.Laws.{refusal_number, writes_refused}
 use Rattle.arbiter.specs.Cycle as RoundRobinCalls
 use Rattle.packed_scan.specs.Calls as PackedCalls
@@ -41,15 +43,17 @@ use Rattle.engines.specs.declared.Engine.TheVariants.{Scan}
 use Rattle.engines.specs.Calls.Laws.{Served, engine_served, engine_refused}
 use Rattle.backlog.specs.Calls.{arrived, requests}
 use Rattle.backlog.specs.Calls.Laws.{backlog_served, backlog_refused}
-use Rattle.calls.specs.EveryCall.{Call, Made, engine_cycle, bus_cycle, packed_cycle, backlog_cycle, engine_opening, bus_opening, packed_opening, cycle, image_read, image_write, snapshot_read, snapshot_write, ran, unwriting, writing, made, HeadAfter, GrantsCounted, left_asking, MorePending, RefusedAsGiven, Placed, PlaceZero, AdderAnswers}
+use Rattle.calls.specs.Calls.{Cycle, engine_cycle, bus_cycle, packed_cycle, backlog_cycle, Call, cycle, engine_opening, bus_opening, packed_opening, image_read, image_write, snapshot_read, snapshot_write, Made, ran, unwriting, writing, made, Step, run}
+use Rattle.calls.specs.Calls as Calls
+use Rattle.calls.specs.EveryCall.{HeadAfter, GrantsCounted, left_asking, MorePending, RefusedAsGiven, RefusedSkipped, PlaceZero, AdderAnswers}
 
 -- how many bytes are 1
 abbrev ones : List ℕ → ℕ
 ones bytes = count (λ b. eqb b 1) bytes
 
 -- what a served call answers by its bytes, with the state that it leaves
-abbrev says : Made → State → Answer
-says r next = record { outcome = Ok (ones r.grants); state = next; more = left_asking r }
+abbrev says : Made → State → Answer Granted
+says r next = record { state = next; outcome = Ok (record { count = ones r.grants; more = left_asking r }) }
 
 -- what a call has come to: served, it counts its grants and says whether somebody is left asking; refused, it answers with the state
 -- that it was given and changes nothing
@@ -59,27 +63,27 @@ data Asked (r : Made) : Type 0 where
 
 -- a call has come to one of the two, where a served one counts its grants and a refused one leaves state and buffers as they were
 come_to : (r : Made) (next : State) → (number r.answer ≡ 0 → r.answer ≡ says r next)
-    → ((number r.answer ≡ 0 → ⊥) → (r.answer.state ≡ r.given) × (r.left ≡ r.lent) × (r.answer.more ≡ false)) → Asked r
+    → ((number r.answer ≡ 0 → ⊥) → (r.answer.state ≡ r.given) × (r.left ≡ r.lent)) → Asked r
 come_to r next passes keeps = of_outcome r.answer.outcome refl
   where
-    of_outcome : (o : Result ℕ Refusal) → r.answer.outcome ≡ o → Asked r
+    of_outcome : (o : Result Granted Refusal) → r.answer.outcome ≡ o → Asked r
     of_outcome (Ok k) is = asked_served next (passes (ap number_of is))
-    of_outcome (Err e) is = let kept = keeps (λ z. refusal_number e (sym (ap number_of is) ∙ z)) in asked_refused e (rw (← is, ← kept.0, kept.2)) kept.1
+    of_outcome (Err e) is = let kept = keeps (λ z. refusal_number e (sym (ap number_of is) ∙ z)) in asked_refused e (rw (← is, ← kept.0)) kept.1
 
 -- where nobody asks, nobody is left asking
 none_asking : (grants : List ℕ) (n : ℕ) → list_any (λ w. eqb (get_or {A = ℕ} [] w 0) 1 && eqb (get_or grants w 0) 0) (range 0 n) ≡ false
 none_asking grants n = ListsLaws.any_none _ 0 n (λ w _ _. refl)
 
 -- one that writes no buffer
-asked_unwriting : (v : Verdict) (t s : State) → Asked (unwriting (if_passed v (served t) (λ e. refused e s)) s)
-asked_unwriting (Ok _) t s = asked_served t (rw (none_asking [] s.width))
-asked_unwriting (Err e) t s = asked_refused e refl refl
+asked_unwriting : (v : Verdict) (c : Call) (t s : State) → Asked (unwriting c s (if_passed v (served t) (λ e. refused e s)))
+asked_unwriting (Ok _) c t s = asked_served t (rw (none_asking [] s.width))
+asked_unwriting (Err e) c t s = asked_refused e refl refl
 
 -- one that writes a buffer
-asked_writing : (v : Verdict) (s t : State) (target former : List ℕ)
-    → Asked (writing (Answers.writes v s (served t) target former) s former)
-asked_writing (Ok _) s t target former = asked_served t (rw (none_asking [] s.width))
-asked_writing (Err e) s t target former = asked_refused e refl refl
+asked_writing : (v : Verdict) (c : Call) (s t : State) (target former : List ℕ)
+    → Asked (writing c s (Answers.writes v s (served t) target former) former)
+asked_writing (Ok _) c s t target former = asked_served t (rw (none_asking [] s.width))
+asked_writing (Err e) c s t target former = asked_refused e refl refl
 
 -- the state after a served cycle by the round-robin rule, and after one by the bus's
 abbrev after : State → List ℕ → State
@@ -99,7 +103,7 @@ counted s r requests e f t =
     let left = PendingLaws.more_told s.width s.picks s.head asks station in
     rw (e, f, t.granted, is, ← left) t.answers
 
-bus_counted : (s : State) (r : Made) (requests : List ℕ) (byte : ℕ) (o : Effect) → r.given ≡ s → r.requests ≡ requests → r.answer ≡ o.answer
+bus_counted : (s : State) (r : Made) (requests : List ℕ) (byte : ℕ) (o : Effect Granted) → r.given ≡ s → r.requests ≡ requests → r.answer ≡ o.answer
     → r.grants ≡ o.written → BusCallsLaws.Served s requests byte o → r.answer ≡ says r (bus_after s requests byte)
 bus_counted s r requests byte o e f g h t =
     let asks = RoundRobinCalls.asking s requests in
@@ -107,143 +111,142 @@ bus_counted s r requests byte o e f g h t =
     let left = BusLaws.more_told s.width (BusCalls.token s) asks t.token in
     rw (e, f, g, h, t.grants, is, ← left) t.answers
 
--- the cycles of the engines of the round-robin rule, and of the scan among them
-asked_engine : (e : Engine) (s : State) (requests grants nodes : List ℕ) → Asked (ran (engine_cycle e s requests grants nodes))
+-- the cycles of the engines of the round-robin rule
+asked_engine : (e : Engine) (s : State) (requests grants nodes : List ℕ) → Asked (ran s (engine_cycle e requests grants nodes))
 asked_engine e s requests grants nodes =
-    come_to (ran (engine_cycle e s requests grants nodes)) (after s requests)
-    (λ z. counted s (ran (engine_cycle e s requests grants nodes)) requests refl refl (engine_served e s requests grants nodes z))
-    (λ n. let kept = engine_refused e s requests grants nodes n in (kept.0, rw (kept.1, kept.2), kept.3))
+    come_to (ran s (engine_cycle e requests grants nodes)) (after s requests)
+    (λ z. counted s (ran s (engine_cycle e requests grants nodes)) requests refl refl (engine_served e s requests grants nodes z))
+    (λ n. let kept = engine_refused e s requests grants nodes n in (kept.0, rw (kept.1, kept.2)))
 
-asked_scan : (s : State) (requests grants nodes : List ℕ) → Asked (ran (engine_cycle Scan s requests grants nodes))
-asked_scan = asked_engine Scan
-
-asked_bus : (s : State) (requests grants : List ℕ) (byte : ℕ) → Asked (ran (bus_cycle s requests grants byte))
+asked_bus : (s : State) (requests grants : List ℕ) (byte : ℕ) → Asked (ran s (bus_cycle requests grants byte))
 asked_bus s requests grants byte =
-    come_to (ran (bus_cycle s requests grants byte)) (bus_after s requests byte)
+    come_to (ran s (bus_cycle requests grants byte)) (bus_after s requests byte)
     (λ z.
-    bus_counted s (ran (bus_cycle s requests grants byte)) requests byte (BusCalls.cycle s requests grants byte) refl refl refl refl
+    bus_counted s (ran s (bus_cycle requests grants byte)) requests byte (BusCalls.cycle s requests grants byte) refl refl refl refl
     (BusCallsLaws.cycle_served s requests grants byte z))
-    (λ n. let kept = BusCallsLaws.cycle_refused s requests grants byte n in (kept.0, rw kept.1, kept.2))
+    (λ n. let kept = BusCallsLaws.cycle_refused s requests grants byte n in (kept.0, rw kept.1))
 
 -- the packed scan: what it serves, the plain scan serves on the unpacked wires
 module _ (s : State) (requests grants : List ℕ) where
   abbrev wires : List ℕ
   wires = unpack s.width requests
 
-  abbrev packed_outcome : Effect
+  abbrev packed_outcome : Effect Granted
   packed_outcome = PackedCalls.cycle s requests grants
 
-  as_scan : number packed_outcome.answer ≡ 0 → Served s wires packed_outcome.answer (unpack s.width packed_outcome.written)
+  pub as_scan : number packed_outcome.answer ≡ 0 → Served s wires packed_outcome.answer (unpack s.width packed_outcome.written)
   as_scan z =
       let bytes : List ℕ = replicate s.width 0 in
       let same = served_unpacked s requests grants bytes z (length-replicate s.width 0) in
-      rw same at (engine_served Scan s wires bytes [] (ap (λ (o : Effect). number o.answer) same ∙ z))
+      rw same at (engine_served Scan s wires bytes [] (ap (λ (o : Effect Granted). number o.answer) same ∙ z))
 
   packed_kept : (number packed_outcome.answer ≡ 0 → ⊥)
-      → (packed_outcome.answer.state ≡ s) × (packed_outcome.written ≡ grants) × (packed_outcome.answer.more ≡ false)
+      → (packed_outcome.answer.state ≡ s) × (packed_outcome.written ≡ grants)
   packed_kept n =
-      let v = PackedCalls.questions s.width s.picks s.head requests (length grants) in
+      let v = PackedCalls.questions s requests (length grants) in
       writes_refused v s (RoundRobinCalls.answer s wires) (pack (RoundRobinCalls.granting s wires)) grants refl n
 
-  asked_packed : Asked (ran (packed_cycle s requests grants))
+  asked_packed : Asked (ran s (packed_cycle requests grants))
   asked_packed =
-      come_to (ran (packed_cycle s requests grants)) (after s wires) (λ z. counted s (ran (packed_cycle s requests grants)) wires refl refl (as_scan z))
-      (λ n. let kept = packed_kept n in (kept.0, rw kept.1, kept.2))
+      come_to (ran s (packed_cycle requests grants)) (after s wires) (λ z. counted s (ran s (packed_cycle requests grants)) wires refl refl (as_scan z))
+      (λ n. let kept = packed_kept n in (kept.0, rw kept.1))
 
 -- the backlog: what it serves, its engine serves on the requests that the numbers make
-asked_backlog : (e : Engine) (s : State) (arrivals waiting grants nodes : List ℕ) → Asked (ran (backlog_cycle e s arrivals waiting grants nodes))
+asked_backlog : (e : Engine) (s : State) (arrivals waiting grants nodes : List ℕ) → Asked (ran s (backlog_cycle e arrivals waiting grants nodes))
 asked_backlog e s arrivals waiting grants nodes =
     let wires = requests (arrived waiting arrivals) in
-    come_to (ran (backlog_cycle e s arrivals waiting grants nodes)) (after s wires)
-    (λ z. counted s (ran (backlog_cycle e s arrivals waiting grants nodes)) wires refl refl (backlog_served e s arrivals waiting grants nodes z))
-    (λ n. let kept = backlog_refused e s arrivals waiting grants nodes n in (kept.0, rw (kept.1, kept.2, kept.3), kept.4))
+    come_to (ran s (backlog_cycle e arrivals waiting grants nodes)) (after s wires)
+    (λ z. counted s (ran s (backlog_cycle e arrivals waiting grants nodes)) wires refl refl (backlog_served e s arrivals waiting grants nodes z))
+    (λ n. let kept = backlog_refused e s arrivals waiting grants nodes n in (kept.0, rw (kept.1, kept.2, kept.3)))
 
--- every call
-asked : (c : Call) → Asked (made c)
-asked (engine_opening e n m h) = asked_unwriting _ _ _
-asked (bus_opening n m h) = asked_unwriting _ _ _
-asked (packed_opening n m h) = asked_unwriting _ _ _
-asked (cycle (engine_cycle e s requests grants nodes)) = asked_engine e s requests grants nodes
-asked (cycle (bus_cycle s requests grants byte)) = asked_bus s requests grants byte
-asked (cycle (packed_cycle s requests grants)) = asked_packed s requests grants
-asked (cycle (backlog_cycle e s arrivals waiting grants nodes)) = asked_backlog e s arrivals waiting grants nodes
-asked (image_read s bytes) = asked_unwriting _ _ _
-asked (image_write s former) = asked_writing _ _ _ _ _
-asked (snapshot_read bytes) = asked_unwriting _ _ _
-asked (snapshot_write s former) = asked_writing _ _ _ _ _
+-- every cycle, and every call
+asked_cycle : (s : State) (c : Cycle) → Asked (ran s c)
+asked_cycle s (engine_cycle e requests grants nodes) = asked_engine e s requests grants nodes
+asked_cycle s (bus_cycle requests grants byte) = asked_bus s requests grants byte
+asked_cycle s (packed_cycle requests grants) = asked_packed s requests grants
+asked_cycle s (backlog_cycle e arrivals waiting grants nodes) = asked_backlog e s arrivals waiting grants nodes
+
+asked : (s : State) (c : Call) → Asked (made s c)
+asked s (cycle c) = asked_cycle s c
+asked s (engine_opening e n m h) = asked_unwriting _ _ _ _
+asked s (bus_opening n m h) = asked_unwriting _ _ _ _
+asked s (packed_opening n m h) = asked_unwriting _ _ _ _
+asked s (image_read bytes) = asked_unwriting _ _ _ _
+asked s (image_write former) = asked_writing _ _ _ _ _ _
+asked s (snapshot_read bytes) = asked_unwriting _ _ _ _
+asked s (snapshot_write former) = asked_writing _ _ _ _ _ _
 
 -- what is claimed of a call that has come to something
 grants_are_counted : (r : Made) → Asked r → number r.answer ≡ 0 → Answers.count r.answer ≡ ones r.grants
-grants_are_counted r (asked_served next e) z = ap (λ (a : Answer). Answers.count a) e
-grants_are_counted r (asked_refused refusal e same) z = absurd (refusal_number refusal (sym (ap (λ (a : Answer). number a) e) ∙ z))
+grants_are_counted r (asked_served next e) z = ap (λ (a : Answer Granted). Answers.count a) e
+grants_are_counted r (asked_refused refusal e same) z = absurd (refusal_number refusal (sym (ap (λ (a : Answer Granted). number a) e) ∙ z))
 
 pub grants_counted : GrantsCounted
-grants_counted c z = grants_are_counted (made c) (asked c) z
+grants_counted s c z = grants_are_counted (made s c) (asked s c) z
 
-more_said : (r : Made) → Asked r → r.answer.more ≡ (eqb (number r.answer) 0 && left_asking r)
-more_said r (asked_served next e) = rw (ap (λ (a : Answer). number a) e) (ap (λ (a : Answer). a.more) e)
+more_said : (r : Made) → Asked r → more r.answer ≡ (eqb (number r.answer) 0 && left_asking r)
+more_said r (asked_served next e) = rw (ap (λ (a : Answer Granted). number a) e) (ap (λ (a : Answer Granted). more a) e)
 more_said r (asked_refused refusal e same) =
-    let n = ap (λ (a : Answer). number a) e in
-    rw (ne_eqb (number r.answer) 0 (λ z. refusal_number refusal (sym n ∙ z))) (ap (λ (a : Answer). a.more) e)
+    let n = ap (λ (a : Answer Granted). number a) e in
+    rw (ne_eqb (number r.answer) 0 (λ z. refusal_number refusal (sym n ∙ z))) (ap (λ (a : Answer Granted). more a) e)
 
 pub more_pending : MorePending
-more_pending c = more_said (made c) (asked c)
+more_pending s c = more_said (made s c) (asked s c)
 
 as_given : (r : Made) → Asked r → (number r.answer ≡ 0 → ⊥)
     → (Answers.count r.answer ≡ 0) × (r.answer.state ≡ r.given) × (r.left ≡ r.lent)
-as_given r (asked_served next e) n = absurd (n (ap (λ (a : Answer). number a) e))
-as_given r (asked_refused refusal e same) n = (ap (λ (a : Answer). Answers.count a) e, ap (λ (a : Answer). a.state) e, same)
+as_given r (asked_served next e) n = absurd (n (ap (λ (a : Answer Granted). number a) e))
+as_given r (asked_refused refusal e same) n = (ap (λ (a : Answer Granted). Answers.count a) e, ap (λ (a : Answer Granted). a.state) e, same)
 
 pub refused_as_given : RefusedAsGiven
-refused_as_given c n = as_given (made c) (asked c) n
+refused_as_given s c n = as_given (made s c) (asked s c) n
 
--- a refusal's place is 0 except for 8, 10, 14 and 16
-refusal_placed : (refusal : Refusal) → Placed (Refusals.number refusal) (Refusals.place refusal)
-refusal_placed Width eight ten fourteen sixteen = refl
-refusal_placed TreeWidth eight ten fourteen sixteen = refl
-refusal_placed Picks eight ten fourteen sixteen = refl
-refusal_placed HeadRange eight ten fourteen sixteen = refl
-refusal_placed ReadLength eight ten fourteen sixteen = refl
-refusal_placed WriteLength eight ten fourteen sixteen = refl
-refusal_placed NodesLength eight ten fourteen sixteen = refl
-refusal_placed (NotABit p) eight ten fourteen sixteen = absurd (eight refl)
-refusal_placed Acknowledge eight ten fourteen sixteen = refl
-refusal_placed (SecondOne p) eight ten fourteen sixteen = absurd (ten refl)
-refusal_placed FirstLine eight ten fourteen sixteen = refl
-refusal_placed InputLength eight ten fourteen sixteen = refl
-refusal_placed Code eight ten fourteen sixteen = refl
-refusal_placed (UnusedBit p) eight ten fourteen sixteen = absurd (fourteen refl)
-refusal_placed WaitingLength eight ten fourteen sixteen = refl
-refusal_placed (Overflow p) eight ten fourteen sixteen = absurd (sixteen refl)
+-- a cycle, made, is still that cycle, and was given that state
+pub ran_is : (s : State) (c : Cycle) → ((ran s c).call ≡ cycle c) × ((ran s c).given ≡ s)
+ran_is s (engine_cycle e requests grants nodes) = (refl, refl)
+ran_is s (bus_cycle requests grants byte) = (refl, refl)
+ran_is s (packed_cycle requests grants) = (refl, refl)
+ran_is s (backlog_cycle e arrivals waiting grants nodes) = (refl, refl)
 
-placed : (a : Answer) → Placed (number a) (place a)
-placed a = outcome_placed a.outcome
+-- so, refused, it returns that state
+pub state_kept : (s : State) (c : Cycle) → (number (ran s c).answer ≡ 0 → ⊥) → (ran s c).answer.state ≡ s
+state_kept s c n = (refused_as_given s (cycle c) n).1 ∙ (ran_is s c).1
+
+pub refused_skipped : RefusedSkipped
+refused_skipped s m c steps n =
+    let q = with_picks s m in
+    let call : (ran q c).call ≡ cycle c = (ran_is q c).0 in
+    rw (call, ne_eqb _ 0 n) (from steps (state_kept q c n))
   where
-    outcome_placed : (o : Result ℕ Refusal) → Placed (number_of o) (place_of o)
-    outcome_placed (Ok k) eight ten fourteen sixteen = refl
-    outcome_placed (Err refusal) eight ten fourteen sixteen = refusal_placed refusal eight ten fourteen sixteen
+    from : (steps : List Step) {q : State} → q ≡ with_picks s m → Calls.served (run q steps) ≡ Calls.served (run s steps)
+    from [] e = refl
+    from (k ∷ ks) e = rw e refl
 
 pub place_zero : PlaceZero
-place_zero c = placed (made c).answer
+place_zero s c = outcome_placed (made s c).answer.outcome
+  where
+    outcome_placed : (o : Result Granted Refusal) → (member (number_of o) placing ≡ true → ⊥) → place_of o ≡ 0
+    outcome_placed (Ok k) n = refl
+    outcome_placed (Err refusal) n = placed refusal n
 
 -- a served cycle by the round-robin rule ends with a station for a head
-rule_head : (s : State) (requests : List ℕ) (a : Answer) (bytes : List ℕ) → Served s requests a bytes
+rule_head : (s : State) (requests : List ℕ) (a : Answer Granted) (bytes : List ℕ) → Served s requests a bytes
     → (k : ℕ) × (k < s.width) × (a.state ≡ moved s (Some k))
 rule_head s requests a bytes r =
     let k = RoundRobinLaws.next_head s.width s.picks s.head (RoundRobinCalls.asking s requests) r.allows.station in
-    (k.0, k.1, ap (λ (a : Answer). a.state) r.answers ∙ ap (moved s) k.2)
+    (k.0, k.1, ap (λ (a : Answer Granted). a.state) r.answers ∙ ap (moved s) k.2)
 
 pub head_after : HeadAfter
-head_after (engine_cycle e s requests grants nodes) z = rule_head s requests _ _ (engine_served e s requests grants nodes z)
-head_after (bus_cycle s requests grants byte) z =
+head_after s (engine_cycle e requests grants nodes) z = rule_head s requests _ _ (engine_served e s requests grants nodes z)
+head_after s (bus_cycle requests grants byte) z =
     let r = BusCallsLaws.cycle_served s requests grants byte z in
     let asks = RoundRobinCalls.asking s requests in (
       BusRule.next s.width (BusCalls.token s) (BusRule.acknowledged byte) asks,
       BusLaws.next_below s.width (BusCalls.token s) (BusRule.acknowledged byte) asks r.token,
-      ap (λ (a : Answer). a.state) r.answers,
+      ap (λ (a : Answer Granted). a.state) r.answers,
     )
-head_after (packed_cycle s requests grants) z = rule_head s (unpack s.width requests) _ _ (as_scan s requests grants z)
-head_after (backlog_cycle e s arrivals waiting grants nodes) z =
+head_after s (packed_cycle requests grants) z = rule_head s (unpack s.width requests) _ _ (as_scan s requests grants z)
+head_after s (backlog_cycle e arrivals waiting grants nodes) z =
     rule_head s (requests (arrived waiting arrivals)) _ _ (backlog_served e s arrivals waiting grants nodes z)
 
 -- the adder by what it asks: 3 and 13

@@ -1,4 +1,4 @@
-//! What holds of every call, as theorems.
+//! What holds of every call and of lists of calls, as theorems.
 #![tactic(auto)]
 
 pub mod theorems;

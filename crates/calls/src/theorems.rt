@@ -1,6 +1,7 @@
-//! What holds of every call, whatever it is given. No function here does anything: its clause is a theorem, stated in
-//! `specs/EveryCall.antt`.
-ghost use Rattle.calls.specs.EveryCall.{AdderAnswers, GrantsCounted, HeadAfter, MorePending, PlaceZero, RefusedAsGiven};
+//! What holds of every call, whatever it is given, and what lists with messages waiting keep. No function here does anything: its clause
+//! is a theorem, stated in `specs/EveryCall.antt` and `specs/Messages.antt`.
+ghost use Rattle.calls.specs.EveryCall.{AdderAnswers, GrantsCounted, HeadAfter, MorePending, PlaceZero, RefusedAsGiven, RefusedSkipped};
+ghost use Rattle.calls.specs.Messages.{AllKept, EachKept};
 
 /// No served cycle ends without a head.
 #[tactic(auto, using(crate::proofs::EveryCall::head_after))]
@@ -25,6 +26,11 @@ pub fn refused_as_given()
     ensures { RefusedAsGiven }
 {}
 
+/// In a list a refused cycle changes nothing for the calls that come after it.
+pub fn refused_skipped()
+    ensures { RefusedSkipped }
+{}
+
 /// The place of an answer is 0 except for the questions that name one.
 #[tactic(auto, using(crate::proofs::EveryCall::place_zero))]
 pub fn place_zero()
@@ -35,4 +41,16 @@ pub fn place_zero()
 #[tactic(auto, using(crate::proofs::EveryCall::adder_answers))]
 pub fn adder_answers()
     ensures { AdderAnswers }
+{}
+
+/// In any list, at each station, what arrived and what waited at the start are together what was granted and what waits now.
+#[tactic(auto, using(crate::proofs::Conservation::each_kept))]
+pub fn each_kept()
+    ensures { EachKept }
+{}
+
+/// The same for all stations together.
+#[tactic(auto, using(crate::proofs::Conservation::all_kept))]
+pub fn all_kept()
+    ensures { AllKept }
 {}

@@ -3,6 +3,7 @@
 use Rattle.std.specs.Prelude.{ℕ, List}
 use Rattle.rules.specs.Head.{Head}
 use Rattle.arbiter.specs.declared.Answer.{Answer}
+use Rattle.arbiter.specs.declared.Granted.{Granted}
 use Rattle.arbiter.specs.declared.State.{State}
 use Rattle.arbiter.specs.Questions as Questions
 use Rattle.arbiter.specs.Questions.{Verdict, passed}
@@ -16,25 +17,25 @@ pub mod Laws
 pub mod Known
 
 -- what an engine asks about a state
-abbrev pub state_questions : Engine → ℕ → ℕ → Head → Verdict
-state_questions Scan n m h = Questions.state_questions n m h
-state_questions Tree n m h = TreeCalls.state_questions n m h
-state_questions Thermometer n m h = Questions.state_questions n m h
-state_questions KoggeStone n m h = Questions.state_questions n m h
+abbrev pub state_questions : Engine → State → Verdict
+state_questions Scan s = Questions.state_questions s
+state_questions Tree s = TreeCalls.state_questions s
+state_questions Thermometer s = Questions.state_questions s
+state_questions KoggeStone s = Questions.state_questions s
 
 -- what it asks about a node buffer of this length: the tree 7, the others nothing
 abbrev pub nodes_question : Engine → ℕ → ℕ → Verdict
 nodes_question Scan n size = passed
-nodes_question Tree n size = Questions.nodes_length n size
+nodes_question Tree n size = TreeCalls.nodes_length n size
 nodes_question Thermometer n size = passed
 nodes_question KoggeStone n size = passed
 
 -- its opening
-abbrev pub opening : Engine → ℕ → ℕ → Head → Answer
-opening e n m h = Answers.opened (state_questions e n m h) n m h
+abbrev pub opening : Engine → ℕ → ℕ → Head → Answer (Unit {0})
+opening e n m h = let s = Answers.made n m h in Answers.opened (state_questions e s) s
 
 -- what a cycle leaves that knows no node buffer: its bytes stay
-abbrev pub with_nodes : Answers.Effect → List ℕ → TreeEffect
+abbrev pub with_nodes : Answers.Effect Granted → List ℕ → TreeEffect
 with_nodes o formerNodes = record { answer = o.answer; grants = o.written; nodes = formerNodes }
 
 -- an engine's cycle, with the former bytes of the grant buffer and of the node buffer: what it answers, and what the two buffers

@@ -1,9 +1,9 @@
 pub mod Cycles
 pub mod Calls
-pub mod Readings
 pub mod Sharpness
+pub mod Fillings
+pub mod Rulings
 pub mod Waiting
-pub mod Packed
 pub mod BacklogCalls
 pub mod BacklogSharpness
 pub mod Backlog

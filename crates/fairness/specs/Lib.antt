@@ -1,4 +1,4 @@
 pub mod Cycles
+pub mod Kinds
 pub mod Waiting
-pub mod Packed
 pub mod Backlog

@@ -20,7 +20,7 @@ use Rattle.rules.specs.Thermometer.{input, inputs}
 use Rattle.rules.proofs.Thermometer.Laws.{code_bit}
 use Rattle.rules.proofs.Thermometer.Running.{inputs_runs, inputs_codes}
 use Rattle.arbiter.specs.Decisions.{requested}
-use Rattle.arbiter.specs.Places.{Bits}
+use Rattle.search.specs.Places.{Bits}
 use Rattle.kogge_stone.specs.Steps.{Codes}
 
 -- bytes that are 0 or 1 are the codes of what they ask

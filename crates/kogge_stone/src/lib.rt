@@ -12,15 +12,15 @@ ghost use Rattle.rules.specs.RoundRobin as RoundRobinRule;
 ghost use Rattle.rules.specs.RoundRobin.{start};
 ghost use Rattle.rules.specs.Thermometer as ThermometerRule;
 ghost use Rattle.arbiter.specs.Decisions.{requested, decision};
-ghost use Rattle.arbiter.specs.Places.{Bits};
+ghost use Rattle.search.specs.Places.{Bits};
 ghost use Rattle.arbiter.specs.Questions as Questions;
 ghost use Rattle.arbiter.specs.Questions.{max_width};
 ghost use Rattle.kogge_stone.specs.Steps as KoggeStoneSteps;
 
 use arbiter::engine::{Arbiter, RoundRobin, ServedCycle};
 use arbiter::question::{self, Verdict};
-use arbiter::{Decision, MAX_WIDTH, State, decide, first_station, idle};
-use rules::Head;
+use arbiter::refusal::Refusal;
+use arbiter::{Decision, Granted, MAX_WIDTH, State, decide, first_station, idle};
 use thermometer::adder::{self, Picks};
 
 // One count more than there are stations.
@@ -39,12 +39,16 @@ impl Arbiter for KoggeStone {
     ghost state_of = { λ arbiter. arbiter.0 };
 
     // Asks 1, 3 and 4.
-    fn ask(width: usize, picks: usize, head: Head) -> Verdict {
-        question::state(width, picks, head)
+    fn ask(state: &State) -> Verdict {
+        question::state(state)
     }
 
-    fn state(self) -> State {
-        self.0
+    fn state(&self) -> &State {
+        &self.0
+    }
+
+    fn settle(&mut self, decided: Result<Decision, Refusal>) -> Result<Granted, Refusal> {
+        self.0.settle(decided)
     }
 }
 

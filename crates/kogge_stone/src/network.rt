@@ -5,7 +5,7 @@ ghost use Rattle.rules.specs.KoggeStone as KoggeStoneRule;
 ghost use Rattle.rules.specs.RoundRobin.{start};
 ghost use Rattle.rules.specs.Thermometer as ThermometerRule;
 ghost use Rattle.arbiter.specs.Decisions.{requested};
-ghost use Rattle.arbiter.specs.Places.{Bits};
+ghost use Rattle.search.specs.Places.{Bits};
 ghost use Rattle.arbiter.specs.Questions.{max_width};
 ghost use Rattle.kogge_stone.specs.Steps.{Codes};
 

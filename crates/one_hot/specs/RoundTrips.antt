@@ -1,5 +1,5 @@
--- The user's second demand: "Head and wire image .. convert each way without loss". What is written is read back, and what is
--- read is written back, wherever the first of the two calls is served.
+-- Head and image convert each way without loss: what is written is read back, and what is read is written back, wherever the first of the
+-- two calls is served.
 -- Assumes nothing.
 use Rattle.std.specs.Prelude.{ℕ, ◌≡◌, List, length}
 use Rattle.arbiter.specs.declared.State.{State}
@@ -10,7 +10,7 @@ use Rattle.one_hot.specs.Calls as OneHotCalls
 -- the image of a state's head, read into any state that is allowed and has that width, gives it that head
 abbrev pub ImageReadBack : Type 0
 ImageReadBack =
-    (s t : State) (former : List ℕ) → number (OneHotCalls.write s former).answer ≡ 0 → Questions.state_questions t.width t.picks t.head ≡ Questions.passed
+    (s t : State) (former : List ℕ) → number (OneHotCalls.write s former).answer ≡ 0 → Questions.state_questions t ≡ Questions.passed
     → t.width ≡ s.width → OneHotCalls.read t (OneHotCalls.write s former).written ≡ served (moved t s.head)
 
 -- the state that an image was read into writes the same image

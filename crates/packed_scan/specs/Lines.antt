@@ -6,9 +6,13 @@ use Rattle.rules.specs.Head.{Head}
 use Rattle.rules.specs.Packing.{packed_length, unpack, first_line}
 use Rattle.rules.specs.RoundRobin.{start, granted}
 use Rattle.arbiter.specs.Decisions.{requested}
-use Rattle.arbiter.specs.Places.{first, set_lines}
+use Rattle.search.specs.Places.{ones, first}
 use Rattle.arbiter.specs.Questions.{max_width}
 pub mod Laws
+
+-- the lines that are set in packed bytes, from a line on, whether there is a station for them or not
+abbrev pub set_lines : ℕ → List ℕ → List ℕ
+set_lines from packed = ones from (unpack (8 * length packed) packed)
 
 -- the packed wires of n stations: as many bytes as they take, and no bit set that is no station's
 pub record Packed (n : ℕ) (packed : List ℕ) : Type 0 where

@@ -1,5 +1,5 @@
-// The packed scan: requests and grants eight stations to a byte, and one pick. It looks for the first station that asks a byte at
-// a time, by a table.
+//! The packed scan: requests and grants eight stations to a byte, and one pick. It looks for the first station that asks a byte at
+//! a time, by a table.
 #![tactic(auto)]
 
 mod lines;
@@ -13,20 +13,20 @@ ghost use Rattle.rules.specs.RoundRobin as RoundRobinRule;
 ghost use Rattle.rules.specs.RoundRobin.{start};
 ghost use Rattle.arbiter.specs.Answers as Answers;
 ghost use Rattle.arbiter.specs.Decisions.{requested, decision};
-ghost use Rattle.arbiter.specs.Places as Places;
+ghost use Rattle.search.specs.Places as Places;
 ghost use Rattle.arbiter.specs.Questions as Questions;
 ghost use Rattle.arbiter.specs.Questions.{◌then◌};
 ghost use Rattle.packed_scan.specs.Calls as PackedCalls;
-ghost use Rattle.packed_scan.specs.Lines.{Packed};
+ghost use Rattle.packed_scan.specs.Lines.{Packed, set_lines};
 
 use arbiter::engine::Arbiter;
 use arbiter::question::Verdict;
 use arbiter::refusal::Refusal;
-use arbiter::search::highest;
-use arbiter::{Answer, Decision, State, decide, first_station, idle};
+use arbiter::{Answer, Decision, Granted, State, decide, first_station, idle};
 use rules::Head;
+use search::highest;
 
-// A state that the packed scan serves.
+/// A state that the packed scan serves.
 #[derive(Clone, Copy)]
 pub struct PackedScan(pub State);
 
@@ -36,44 +36,55 @@ impl Arbiter for PackedScan {
     ghost state_of = { λ scan. scan.0 };
 
     // Asks 1, 3 and 4; two picks are refused by 3.
-    fn ask(width: usize, picks: usize, head: Head) -> Verdict {
-        question::state(width, picks, head)
+    fn ask(state: &State) -> Verdict {
+        question::state(state)
     }
 
-    fn state(self) -> State {
-        self.0
+    fn state(&self) -> &State {
+        &self.0
+    }
+
+    fn settle(&mut self, decided: Result<Decision, Refusal>) -> Result<Granted, Refusal> {
+        self.0.settle(decided)
     }
 }
 
 impl PackedScan {
-    // One cycle: writes the grant of these requests, both packed, and answers with the count of grants, the next state, and
-    // whether more are pending. Asks 1, 3, 4, 5, 6 and 14. With 11 stations, head 8 and stations 0 and 3 asking, requests 9 0, it
-    // grants 0, grants 1 0, the next head is 1, and more are pending.
-    pub fn cycle(self, requests: &[u8], grants: &mut [u8]) -> Answer
+    /// The questions of a cycle of this state, and what it decides where they pass; then it writes the grant of these requests, both
+    /// packed. Asks 1, 3, 4, 5, 6 and 14. The state stays: `advance` and `cycle` take what is decided into it.
+    #[tactic(auto, using(crate::specs::Calls::Laws::ready))]
+    pub fn arbitrate(state: &State, requests: &[u8], grants: &mut [u8]) -> Result<Decision, Refusal>
+        ensures value { Answers.answered state.now result ≡ (PackedCalls.cycle state.now requests.now grants.old).answer }
+        ensures grants_after { grants.new ≡ (PackedCalls.cycle state.now requests.now grants.old).written }
+    {
+        question::cycle(state, requests, grants.len())?;
+        grants.fill(0);
+        Ok(grant(state.width, state.head, requests, grants))
+    }
+
+    /// One cycle, in place: writes the grant of these requests, both packed, takes the next head, and answers with the count of grants and
+    /// whether more are pending. Asks 1, 3, 4, 5, 6 and 14. With 11 stations, head 8 and stations 0 and 3 asking, requests 9 0, it grants
+    /// 0, grants 1 0, the next head is 1, and more are pending.
+    pub fn advance(&mut self, requests: &[u8], grants: &mut [u8]) -> Result<Granted, Refusal>
+        ensures value { result ≡ (PackedCalls.cycle self.old.0 requests.now grants.old).answer.outcome }
+        ensures state_after { self.new.0 ≡ (PackedCalls.cycle self.old.0 requests.now grants.old).answer.state }
+        ensures grants_after { grants.new ≡ (PackedCalls.cycle self.old.0 requests.now grants.old).written }
+    {
+        let decided = PackedScan::arbitrate(&self.0, requests, grants);
+        self.0.settle(decided)
+    }
+
+    /// The same with the state handed in and back.
+    pub fn cycle(mut self, requests: &[u8], grants: &mut [u8]) -> Answer<Granted>
         ensures value { result ≡ (PackedCalls.cycle self.0 requests.now grants.old).answer }
         ensures grants_after { grants.new ≡ (PackedCalls.cycle self.0 requests.now grants.old).written }
     {
-        let s = self.0;
-        let decided = arbitrate(s.width, s.picks, s.head, requests, grants);
-        s.answer(decided)
+        let outcome = self.advance(requests, grants);
+        Answer {
+            state: self.0,
+            outcome,
+        }
     }
-}
-
-// The questions of a cycle, and what it decides where they pass.
-#[tactic(auto, using(crate::specs::Calls::Laws::ready))]
-fn arbitrate(
-    width: usize,
-    picks: usize,
-    head: Head,
-    requests: &[u8],
-    grants: &mut [u8],
-) -> Result<Decision, Refusal>
-    ensures value { result ≡ (PackedCalls.questions width picks head requests.now (length grants.old) then Ok (decision width picks head (requested (unpack width requests.now)))) }
-    ensures grants_after { grants.new ≡ Answers.if_passed (PackedCalls.questions width picks head requests.now (length grants.old)) (pack (RoundRobinRule.grants width picks head (requested (unpack width requests.now)))) (λ _. grants.old) }
-{
-    question::cycle(width, picks, head, requests, grants.len())?;
-    grants.fill(0);
-    Ok(grant(width, head, requests, grants))
 }
 
 // A cycle that no question refuses, with a grant buffer that is all 0.
@@ -100,7 +111,7 @@ fn grant(width: usize, head: Head, requests: &[u8], grants: &mut [u8]) -> Decisi
 fn first_request(first: usize, requests: &[u8]) -> Option<usize>
     requires first_bound { first < 8 * length requests.now }
     requires requests_len_bound { length requests.now ≤ Questions.max_width }
-    ensures { result ≡ Places.first (Places.set_lines first requests.now ++ Places.set_lines 0 requests.now) }
+    ensures { result ≡ Places.first (set_lines first requests.now ++ set_lines 0 requests.now) }
 {
     if let Some(station) = lines::first_in_byte(first, requests) {
         return Some(station);

@@ -1,11 +1,11 @@
 // Searching packed wires by the table.
 ghost use Rattle.std.specs.Prelude.{IfSome, ◌++◌, ◌≡◌, ◌+◌, ◌/◌, ◌%◌, ◌^◌, ◌<◌, length, take};
 ghost use Rattle.rules.specs.Packing as Packing;
-ghost use Rattle.arbiter.specs.Places as Places;
+ghost use Rattle.search.specs.Places as Places;
 ghost use Rattle.packed_scan.specs.Lines as PackedLines;
 
 use crate::table;
-use arbiter::search::first_nonzero;
+use search::first_nonzero;
 
 // The first byte that is not 0 of those after the byte `home` and then, up to it again, of those from 0 on; or none.
 pub(crate) fn next_byte(home: usize, packed: &[u8]) -> Option<usize>

@@ -10,8 +10,8 @@ use lib.ListN.{length, take}
 use lib.Seq.{length-take-le, get_or-take}
 use Rattle.std.specs.Prelude.{Option, None, Some}
 use Rattle.arbiter.specs.Decisions.{requested}
-use Rattle.arbiter.specs.Places.{ones, first}
-use Rattle.arbiter.specs.Places.Laws as PlacesLaws
+use Rattle.search.specs.Places.{ones, first}
+use Rattle.search.specs.Places.Laws as PlacesLaws
 
 module _ (requests : List ℕ) (from to : ℕ) (room : to ≤ length requests) where
   -- a byte below the limit is the buffer's

@@ -8,9 +8,9 @@ ghost use Rattle.arbiter.specs.Questions as Questions;
 
 use arbiter::engine::{Arbiter, RoundRobin, ServedCycle};
 use arbiter::question::{self, Verdict};
-use arbiter::search::first_one;
-use arbiter::{Decision, State, decide, first_station};
-use rules::Head;
+use arbiter::refusal::Refusal;
+use arbiter::{Decision, Granted, State, decide, first_station};
+use search::first_one;
 
 // A state that the plain scan serves.
 #[derive(Clone, Copy)]
@@ -29,12 +29,16 @@ impl Arbiter for Scan {
     ghost state_of = { λ scan. scan.0 };
 
     // Asks 1, 3 and 4.
-    fn ask(width: usize, picks: usize, head: Head) -> Verdict {
-        question::state(width, picks, head)
+    fn ask(state: &State) -> Verdict {
+        question::state(state)
     }
 
-    fn state(self) -> State {
-        self.0
+    fn state(&self) -> &State {
+        &self.0
+    }
+
+    fn settle(&mut self, decided: Result<Decision, Refusal>) -> Result<Granted, Refusal> {
+        self.0.settle(decided)
     }
 }
 

@@ -13,8 +13,9 @@ use Rattle.std.specs.Prelude.{None, Some, Ok, Err}
 use Rattle.rules.specs.Lists.Laws as ListsLaws
 use Rattle.arbiter.specs.declared.Answer.{Answer}
 use Rattle.arbiter.specs.declared.State.{State}
-use Rattle.arbiter.specs.Words as Words
-use Rattle.arbiter.specs.Places.Laws.{Free, free_of}
+use Rattle.arbiter.specs.declared.refusal.Buffer.TheVariants.{Snapshot}
+use Rattle.search.specs.Words as Words
+use Rattle.search.specs.Places.Laws.{Free, free_of}
 use Rattle.arbiter.specs.Questions as Questions
 use Rattle.arbiter.specs.Questions.{Verdict, passed, ◌then◌}
 use Rattle.arbiter.specs.Questions.Laws as QuestionsLaws
@@ -22,7 +23,7 @@ use Rattle.arbiter.specs.Answers.{made, number, number_of, served, opened}
 use Rattle.arbiter.specs.Answers.Laws as AnswersLaws
 use Rattle.snapshot.specs.declared.Fields.{Fields}
 use Rattle.snapshot.specs.Calls as SnapshotCalls
-use Rattle.snapshot.specs.Calls.{marked, fields, allowed, no_stray, questions, saved}
+use Rattle.snapshot.specs.Calls.{marked, fields, allowed, no_stray, state, questions, saved}
 use Rattle.snapshot.specs.Calls.Laws as SnapshotCallsLaws
 use Rattle.snapshot.specs.RoundTrips.{SnapshotReadBack, SnapshotWrittenBack, ShortReadAlike, ShortLengthened}
 
@@ -36,7 +37,7 @@ record Holds (n m : ℕ) (h : Head) (bytes : List ℕ) : Type 0 where
   pub picks : (fields bytes).picks ≡ m
   pub head : head_of (fields bytes) ≡ h
   pub clean : no_stray (fields bytes) ≡ passed
-  pub mark : Questions.bits (length bytes - 1) bytes ≡ passed
+  pub mark : Questions.bits Snapshot (length bytes - 1) bytes ≡ passed
   pub long : length bytes ≡ SnapshotCalls.size
 
 two_bytes_lem : (x : ℕ) → Words.number (SnapshotCalls.two_bytes x) ≡ x
@@ -64,32 +65,32 @@ holds n m (Some h) l =
     }
 
 -- a state that passes 1, 3 and 4 is read from its snapshot
-read_saved : (s : State) → QuestionsLaws.Allowed s.width s.picks s.head → SnapshotCalls.read (saved s) ≡ served s
+read_saved : (s : State) → QuestionsLaws.Allowed s → SnapshotCalls.read (saved s) ≡ served s
 read_saved s a =
     let bytes = saved s in
     let k = holds s.width s.picks s.head a.some in
     let f = fields bytes in
     let five : SnapshotCalls.read_length (length bytes) ≡ passed = rw k.long in
-    let state : Questions.state_questions f.width f.picks (head_of f) ≡ passed =
-    rw (k.width, k.picks, k.head) (QuestionsLaws.allows s.width s.picks s.head a) in
-    let rest = QuestionsLaws.then_passed (Questions.bits (length bytes - 1) bytes) (allowed f) k.mark (QuestionsLaws.then_passed _ (no_stray f) state k.clean) in
+    let four : Questions.state_questions (state f) ≡ passed =
+    rw (k.width, k.picks, k.head) (QuestionsLaws.allows s a) in
+    let rest = QuestionsLaws.then_passed (Questions.bits Snapshot (length bytes - 1) bytes) (allowed f) k.mark (QuestionsLaws.then_passed _ (no_stray f) four k.clean) in
     let passes : questions bytes ≡ passed =
     QuestionsLaws.then_passed (SnapshotCalls.read_length (length bytes)) _ five
     (sym (SnapshotCallsLaws.asked bytes (omega arith) five) ∙ rest) in
-    let same : served (made f.width f.picks (head_of f)) ≡ served s = rw (k.width, k.picks, k.head) in
+    let same : served (state f) ≡ served s = rw (k.width, k.picks, k.head) in
     AnswersLaws.passed_is (questions bytes) _ _ passes ∙ same
 
 pub snapshot_read_back : SnapshotReadBack
 snapshot_read_back s former z =
-    let v = Questions.write_questions s.width s.picks s.head SnapshotCalls.size (length former) in
+    let v = Questions.write_questions s SnapshotCalls.size (length former) in
     let passes : v ≡ passed = AnswersLaws.writes_passed v s (served s) (saved s) former z in
-    let a = (QuestionsLaws.writable s.width s.picks s.head SnapshotCalls.size (length former) passes).allows in
+    let a = (QuestionsLaws.writable s SnapshotCalls.size (length former) passes).allows in
     ap (λ o. SnapshotCalls.read o.written) (AnswersLaws.writes_is v s (served s) (saved s) former passes) ∙ read_saved s a
 
 -- what is known of a snapshot that is served
 record Served (bytes : List ℕ) : Type 0 where
-  pub read : SnapshotCalls.read bytes ≡ served (made (fields bytes).width (fields bytes).picks (head_of (fields bytes)))
-  pub allows : QuestionsLaws.Allowed (fields bytes).width (fields bytes).picks (head_of (fields bytes))
+  pub read : SnapshotCalls.read bytes ≡ served (state (fields bytes))
+  pub allows : QuestionsLaws.Allowed (state (fields bytes))
   pub clean : (eqb (fields bytes).mark 1 || eqb (fields bytes).station 0) ≡ true
   pub mark : get_or bytes (length bytes - 1) 0 ≤ 1
 
@@ -98,15 +99,15 @@ serves bytes byte some z =
     let f = fields bytes in
     let v = questions bytes in
     let last = length bytes - 1 in
-    let passes : v ≡ passed = AnswersLaws.opened_passed v f.width f.picks (head_of f) z in
+    let passes : v ≡ passed = AnswersLaws.opened_passed v (state f) z in
     let five = QuestionsLaws.then_served (SnapshotCalls.read_length (length bytes)) _ passes in
-    let rest : (Questions.bits last bytes then allowed f) ≡ passed = SnapshotCallsLaws.asked bytes (byte 0) five.0 ∙ five.1 in
-    let eight = QuestionsLaws.then_served (Questions.bits last bytes) (allowed f) rest in
-    let four = QuestionsLaws.then_served (Questions.state_questions f.width f.picks (head_of f)) (no_stray f) eight.1 in
+    let rest : (Questions.bits Snapshot last bytes then allowed f) ≡ passed = SnapshotCallsLaws.asked bytes (byte 0) five.0 ∙ five.1 in
+    let eight = QuestionsLaws.then_served (Questions.bits Snapshot last bytes) (allowed f) rest in
+    let four = QuestionsLaws.then_served (Questions.state_questions (state f)) (no_stray f) eight.1 in
     let free : Free (ltb 1) last (length bytes) bytes = free_of (QuestionsLaws.first_served _ _ eight.0) in
     record {
       read = AnswersLaws.passed_is v _ _ passes;
-      allows = QuestionsLaws.allowed f.width f.picks (head_of f) four.0;
+      allows = QuestionsLaws.allowed (state f) four.0;
       clean = QuestionsLaws.unless_served _ _ four.1;
       mark = ltb-false 1 (get_or bytes last 0) (free.at last (omega arith) (omega arith));
     }
@@ -134,7 +135,7 @@ byte_at bytes i = get_or bytes i 0
 
 saved_held : (bytes : List ℕ) → ((i : ℕ) → get_or bytes i 0 < 256) → length bytes ≡ SnapshotCalls.size → get_or bytes 5 0 ≤ 1
     → let f = SnapshotCalls.long_fields bytes in
-    (eqb f.mark 1 || eqb f.station 0) ≡ true → saved (made f.width f.picks (head_of f)) ≡ bytes
+    (eqb f.mark 1 || eqb f.station 0) ≡ true → saved (state f) ≡ bytes
 unfolding SnapshotCalls.long_fields
 saved_held bytes byte e low clean =
     let x = Words.number (byte_at bytes 0 ∷ byte_at bytes 1 ∷ []) in
@@ -147,30 +148,30 @@ pub snapshot_written_back : SnapshotWrittenBack
 snapshot_written_back bytes former byte long z e =
     let k = serves bytes byte (omega arith) z in
     let f = fields bytes in
-    let s = made f.width f.picks (head_of f) in
+    let s = state f in
     let six : f ≡ SnapshotCalls.long_fields bytes = SnapshotCallsLaws.fields_long bytes long in
     let last : length bytes - 1 ≡ 5 = omega arith in
     let same : saved s ≡ bytes = rw six (saved_held bytes byte long (rw last at k.mark) (rw six at k.clean)) in
     rw k.read
-    (AnswersLaws.writes_is (Questions.write_questions s.width s.picks s.head SnapshotCalls.size (length former)) s (served s) (saved s) former
-    (QuestionsLaws.writes f.width f.picks (head_of f) SnapshotCalls.size (length former) k.allows e)
+    (AnswersLaws.writes_is (Questions.write_questions s SnapshotCalls.size (length former)) s (served s) (saved s) former
+    (QuestionsLaws.writes s SnapshotCalls.size (length former) k.allows e)
     ∙ rw same)
 
 pub short_read_alike : ShortReadAlike
 short_read_alike bytes byte short z =
     let k = serves bytes byte (omega arith) z in
     let f = fields bytes in
-    ap (λ (a : Answer). SnapshotCalls.read (saved a.state)) k.read
-    ∙ read_saved (made f.width f.picks (head_of f)) k.allows
+    ap (λ (a : Answer (Unit {0})). SnapshotCalls.read (saved a.state)) k.read
+    ∙ read_saved (state f) k.allows
     ∙ sym k.read
 
 -- two openings whose first questions say the same number, and whose further ones are the same, answer with the same number and state
-opened_alike : (v w q : Verdict) (n m : ℕ) (h : Head) → number_of v ≡ number_of w
-    → (number (opened (v then q) n m h) ≡ number (opened (w then q) n m h)) × ((opened (v then q) n m h).state ≡ (opened (w then q) n m h).state)
-opened_alike (Ok _) (Ok _) q n m h e = (refl, refl)
-opened_alike (Ok _) (Err r) q n m h e = absurd (AnswersLaws.refusal_number r (sym e))
-opened_alike (Err r) (Ok _) q n m h e = absurd (AnswersLaws.refusal_number r e)
-opened_alike (Err p) (Err r) q n m h e = (e, refl)
+opened_alike : (v w q : Verdict) (s : State) → number_of v ≡ number_of w
+    → (number (opened (v then q) s) ≡ number (opened (w then q) s)) × ((opened (v then q) s).state ≡ (opened (w then q) s).state)
+opened_alike (Ok _) (Ok _) q s e = (refl, refl)
+opened_alike (Ok _) (Err r) q s e = absurd (AnswersLaws.refusal_number r (sym e))
+opened_alike (Err r) (Ok _) q s e = absurd (AnswersLaws.refusal_number r e)
+opened_alike (Err p) (Err r) q s e = (e, refl)
 
 module _ (a b c d : ℕ) where
   abbrev short : List ℕ
@@ -186,14 +187,14 @@ module _ (a b c d : ℕ) where
       let far : Words.number (c ∷ 0 ∷ []) ≡ c = omega arith in
       rw (wide, far)
 
-  same_mark : number_of (Questions.bits 3 short) ≡ number_of (Questions.bits 5 long)
+  same_mark : number_of (Questions.bits Snapshot 3 short) ≡ number_of (Questions.bits Snapshot 5 long)
   same_mark = ListsLaws.split (ltb 1 d) (λ t. rw t) (λ f. rw f)
 
   -- the questions of the short one, by the fields of the long one
-  short_asked : a < 256 → questions short ≡ (Questions.bits 3 short then allowed (fields long))
-  short_asked l = sym (SnapshotCallsLaws.asked short l refl) ∙ ap (λ (f : Fields). Questions.bits 3 short then allowed f) same_fields
+  short_asked : a < 256 → questions short ≡ (Questions.bits Snapshot 3 short then allowed (fields long))
+  short_asked l = sym (SnapshotCallsLaws.asked short l refl) ∙ ap (λ (f : Fields). Questions.bits Snapshot 3 short then allowed f) same_fields
 
-  long_asked : questions long ≡ (Questions.bits 5 long then allowed (fields long))
+  long_asked : questions long ≡ (Questions.bits Snapshot 5 long then allowed (fields long))
   unfolding fields
   long_asked = refl
 
@@ -201,4 +202,4 @@ pub short_lengthened : ShortLengthened
 short_lengthened a b c d l =
     let f = fields (long a b c d) in
     rw (same_fields a b c d, short_asked a b c d l, long_asked a b c d)
-    (opened_alike (Questions.bits 3 (short a b c d)) (Questions.bits 5 (long a b c d)) (allowed f) f.width f.picks (head_of f) (same_mark a b c d))
+    (opened_alike (Questions.bits Snapshot 3 (short a b c d)) (Questions.bits Snapshot 5 (long a b c d)) (allowed f) (state f) (same_mark a b c d))

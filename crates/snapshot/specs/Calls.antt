@@ -1,12 +1,13 @@
--- The snapshot of a state: 01, "Keeping the head", the saved form, in the bytes of 02, N4.
+-- The snapshot of a state: six bytes, and a short form of four that is still read.
 -- Assumes nothing.
 use Rattle.std.specs.Prelude.{ℕ, ◌+◌, ◌-◌, ◌/◌, ◌%◌, cond, ◌||◌, List, [], ◌∷◌, ◌++◌, eqb, length, get_or}
 use Rattle.rules.specs.Head.{Head}
 use Rattle.std.specs.Prelude.{None, Some}
 use Rattle.arbiter.specs.declared.Answer.{Answer}
 use Rattle.arbiter.specs.declared.State.{State}
+use Rattle.arbiter.specs.declared.refusal.Buffer.TheVariants.{Snapshot}
 use Rattle.arbiter.specs.declared.refusal.Refusal.TheVariants.{ReadLength, HeadRange}
-use Rattle.arbiter.specs.Words as Words
+use Rattle.search.specs.Words as Words
 use Rattle.arbiter.specs.Questions as Questions
 use Rattle.arbiter.specs.Questions.{Verdict, ◌then◌}
 use Rattle.arbiter.specs.Answers.{Effect, made, served, opened, writes}
@@ -68,6 +69,10 @@ fields bytes = cond (eqb (length bytes) short_size) (short_fields bytes) (long_f
 abbrev pub marked : ℕ → ℕ → Head
 marked station byte = cond (eqb byte 1) (Some station) None
 
+-- the state that a snapshot says
+abbrev pub state : Fields → State
+state f = made f.width f.picks (marked f.station f.mark)
+
 -- 5: "5 accepts a saved form of four or six bytes"
 abbrev pub read_length : ℕ → Verdict
 read_length stated = Questions.refuse_unless (eqb stated short_size || eqb stated size) ReadLength
@@ -78,17 +83,17 @@ no_stray f = Questions.refuse_unless (eqb f.mark 1 || eqb f.station 0) HeadRange
 
 -- 1, 3 and 4 of what a snapshot says
 abbrev pub allowed : Fields → Verdict
-allowed f = Questions.state_questions f.width f.picks (marked f.station f.mark) then no_stray f
+allowed f = Questions.state_questions (state f) then no_stray f
 
 -- the questions of six bytes after 5: "8 names byte 5 in the long form, where 1 is asked next, then 3, then 4"
 abbrev pub long_questions : List ℕ → Verdict
-long_questions bytes = Questions.bits 5 bytes then allowed (long_fields bytes)
+long_questions bytes = Questions.bits Snapshot 5 bytes then allowed (long_fields bytes)
 
 -- the questions of four bytes after 5: "then 8 of byte 3 alone (place 3), then 3, then 4"
 abbrev pub short_questions : List ℕ → Verdict
 short_questions bytes =
     let f = short_fields bytes in
-    Questions.bits 3 bytes
+    Questions.bits Snapshot 3 bytes
     then (Questions.picks f.width f.picks then Questions.head f.width (marked f.station f.mark) then no_stray f)
 
 -- the questions of reading one
@@ -96,16 +101,10 @@ abbrev pub questions : List ℕ → Verdict
 questions bytes =
     read_length (length bytes) then cond (eqb (length bytes) short_size) (short_questions bytes) (long_questions bytes)
 
--- the state that a snapshot says
-abbrev pub state : Fields → State
-state f = made f.width f.picks (marked f.station f.mark)
-
 -- reading one makes the state of what it says
-abbrev pub read : List ℕ → Answer
-read bytes =
-    let f = fields bytes in
-    opened (questions bytes) f.width f.picks (marked f.station f.mark)
+abbrev pub read : List ℕ → Answer (Unit {0})
+read bytes = opened (questions bytes) (state (fields bytes))
 
 -- writing one: "6 asks six"
-abbrev pub write : State → List ℕ → Effect
-write s former = writes (Questions.write_questions s.width s.picks s.head size (length former)) s (served s) (saved s) former
+abbrev pub write : State → List ℕ → Effect (Unit {0})
+write s former = writes (Questions.write_questions s size (length former)) s (served s) (saved s) former

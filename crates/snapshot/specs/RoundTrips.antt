@@ -1,5 +1,5 @@
--- The user's second demand: ".. state and saved form, convert each way without loss"; 02, N4: "the each-way rule now speaks of six".
--- What is written is read back, and six bytes that are read are written back, wherever the first of the two calls is served.
+-- State and snapshot convert each way without loss: what is written is read back, and six bytes that are read are written back, wherever
+-- the first of the two calls is served.
 -- Assumes nothing.
 use Rattle.std.specs.Prelude.{ℕ, ◌<◌, ◌≡◌, List, [], ◌∷◌, length, get_or}
 use Rattle.arbiter.specs.declared.State.{State}
@@ -19,7 +19,7 @@ SnapshotWrittenBack =
     → length former ≡ SnapshotCalls.size
     → let s = (SnapshotCalls.read bytes).state in SnapshotCalls.write s former ≡ record { answer = served s; written = bytes }
 
--- "Four-byte forms .. mean the same state": one that is served gives what the snapshot of its state gives
+-- four bytes mean the same state: what is served gives what the snapshot of its state gives
 abbrev pub ShortReadAlike : Type 0
 ShortReadAlike =
     (bytes : List ℕ) → ((i : ℕ) → get_or bytes i 0 < 256) → length bytes ≡ SnapshotCalls.short_size → number (SnapshotCalls.read bytes) ≡ 0

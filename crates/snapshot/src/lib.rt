@@ -1,29 +1,28 @@
-// The snapshot of a state, 01's saved form, in the six bytes of 02, N4: the width less one in two bytes, the picks, the head or 0 in
-// two bytes, and the mark, 1 if there is a head. The low byte of two is the first. The short form, 01's own of four bytes, has one
-// byte for each of these; it is still read, but no longer written.
+//! The snapshot of a state, in six bytes: the width less one in two bytes, the picks, the head or 0 in two bytes, and the mark, 1 if there
+//! is a head. The low byte of two is the first. A short form has four bytes, one for each of these; it is still read, but no longer
+//! written.
 #![tactic(auto)]
 
 pub mod theorems;
 
 ghost use Rattle.std.specs.Prelude.{◌≡◌, length, Ok};
 ghost use Rattle.arbiter.specs.Answers as Answers;
-ghost use Rattle.arbiter.specs.Decisions as Decisions;
 ghost use Rattle.arbiter.specs.Questions as Questions;
 ghost use Rattle.arbiter.specs.Questions.{◌then◌};
 ghost use Rattle.snapshot.specs.Calls as SnapshotCalls;
 
 use arbiter::question::{self, Verdict};
-use arbiter::refusal::Refusal;
-use arbiter::{Answer, Decision, State, first_station, headed};
+use arbiter::refusal::{Buffer, Refusal};
+use arbiter::{Answer, State, first_station, opened};
 use rules::Head;
 
-// How long a snapshot is.
+/// How long a snapshot is.
 pub const SIZE: usize = 6;
 
-// How long the short form is.
+/// How long the short form is.
 pub const SHORT_SIZE: usize = 4;
 
-// A state that is saved as a snapshot.
+/// A state that is saved as a snapshot.
 #[derive(Clone, Copy)]
 pub struct Snapshot(pub State);
 
@@ -38,23 +37,25 @@ struct Fields {
 }
 
 impl Snapshot {
-    // Writes the snapshot of this state. Asks 1, 3, 4 and 6. With 4 stations, 2 picks and head 1 it is 3 0 2 1 0 1.
-    pub fn write(self, snapshot: &mut [u8]) -> Answer
+    /// Writes the snapshot of this state. Asks 1, 3, 4 and 6. With 4 stations, 2 picks and head 1 it is 3 0 2 1 0 1.
+    pub fn write(self, snapshot: &mut [u8]) -> Answer<()>
         ensures value { result ≡ (SnapshotCalls.write self.0 snapshot.old).answer }
         ensures snapshot_after { snapshot.new ≡ (SnapshotCalls.write self.0 snapshot.old).written }
     {
-        let s = self.0;
-        let decided = save(s.width, s.picks, s.head, snapshot);
-        s.answer(decided)
+        let outcome = save(&self.0, snapshot);
+        Answer {
+            state: self.0,
+            outcome,
+        }
     }
 
-    // The state that a snapshot holds. Asks 5, 8 of the last byte, 1, 3 and 4: 3 0 2 1 0 2 is refused by 8 at place 5, and
-    // 3 0 2 0 1 0 by 4. The short form 3 2 1 1 gives what 3 0 2 1 0 1 gives, and 3 2 1 2 is refused by 8 at place 3.
+    /// The state that a snapshot holds. Asks 5, 8 of the last byte, 1, 3 and 4: 3 0 2 1 0 2 is refused by 8 at place 5, and
+    /// 3 0 2 0 1 0 by 4. The short form 3 2 1 1 gives what 3 0 2 1 0 1 gives, and 3 2 1 2 is refused by 8 at place 3.
     #[tactic(auto, using(arbiter::specs::Answers::Laws::opens_then))]
-    pub fn read(snapshot: &[u8]) -> Answer
+    pub fn read(snapshot: &[u8]) -> Answer<()>
         ensures { result ≡ SnapshotCalls.read snapshot.now }
     {
-        Answer::opened(readable(snapshot))
+        opened(readable(snapshot))
     }
 }
 
@@ -81,30 +82,30 @@ impl Fields {
     fn allowed(self) -> Verdict
         ensures { result ≡ SnapshotCalls.allowed self }
     {
-        question::state(self.width, self.picks, self.head())?;
+        question::state(&self.state())?;
         question::refuse_unless((self.mark == 1) | (self.station == 0), Refusal::HeadRange)
     }
 }
 
-// The questions of writing a snapshot; where they pass it writes that of a state of these, and the head stays.
+// The questions of writing a snapshot; where they pass it writes that of this state.
 // By the questions the width is at most 1,024 and the picks at most 8, so the casts lose nothing.
 #[tactic(auto, using(arbiter::specs::Questions::Laws::writable))]
-fn save(width: usize, picks: usize, head: Head, snapshot: &mut [u8]) -> Result<Decision, Refusal>
-    ensures value { result ≡ (Questions.write_questions width picks head SnapshotCalls.size (length snapshot.old) then Ok (Decisions.headed head)) }
-    ensures snapshot_after { snapshot.new ≡ Answers.if_passed (Questions.write_questions width picks head SnapshotCalls.size (length snapshot.old)) (SnapshotCalls.saved (Answers.made width picks head)) (λ _. snapshot.old) }
+fn save(state: &State, snapshot: &mut [u8]) -> Verdict
+    ensures value { result ≡ Questions.write_questions state.now SnapshotCalls.size (length snapshot.old) }
+    ensures snapshot_after { snapshot.new ≡ Answers.if_passed (Questions.write_questions state.now SnapshotCalls.size (length snapshot.old)) (SnapshotCalls.saved state.now) (λ _. snapshot.old) }
 {
-    question::write(width, picks, head, SIZE, snapshot.len())?;
-    let [width_low, width_high] = ((width - 1) as u16).to_le_bytes();
-    let [station_low, station_high] = (first_station(head) as u16).to_le_bytes();
+    question::write(state, SIZE, snapshot.len())?;
+    let [width_low, width_high] = ((state.width - 1) as u16).to_le_bytes();
+    let [station_low, station_high] = (first_station(state.head) as u16).to_le_bytes();
     snapshot.copy_from_slice(&[
         width_low,
         width_high,
-        picks as u8,
+        state.picks as u8,
         station_low,
         station_high,
-        u8::from(head.is_some()),
+        u8::from(state.head.is_some()),
     ]);
-    Ok(headed(head))
+    Ok(())
 }
 
 // The questions of reading a snapshot, and the state that it says where they pass. The width of a short form, a byte and one more, always
@@ -113,7 +114,7 @@ fn readable(snapshot: &[u8]) -> Result<State, Refusal>
     ensures { result ≡ (SnapshotCalls.questions snapshot.now then Ok (SnapshotCalls.state (SnapshotCalls.fields snapshot.now))) }
 {
     let fields = held(snapshot)?;
-    question::bits(snapshot.len() - 1, snapshot)?;
+    question::bits(Buffer::Snapshot, snapshot.len() - 1, snapshot)?;
     fields.allowed()?;
     Ok(fields.state())
 }

@@ -1,18 +1,26 @@
--- The saturated adder as a call, with any input: 01, "The thermometer arbiter" and "Questions each call asks".
+-- The saturated adder as a call, with any input.
 -- Assumes nothing.
-use Rattle.std.specs.Prelude.{ℕ, ◌+◌, Bool, false, Result, Ok, Err}
+use Rattle.std.specs.Prelude.{ℕ, ◌+◌, Bool, false, ◌&&◌, leb, Result, Ok, Err}
 use Rattle.std.specs.Int.Count.{ones}
 use Rattle.rules.specs.Thermometer as ThermometerRule
 use Rattle.arbiter.specs.declared.refusal.Refusal.{Refusal}
+use Rattle.arbiter.specs.declared.refusal.Refusal.TheVariants.{Picks, Code}
 use Rattle.thermometer.specs.declared.adder.Sum.{Sum}
 use Rattle.thermometer.specs.declared.adder.StepSum.{StepSum}
-use Rattle.arbiter.specs.Questions as Questions
-use Rattle.arbiter.specs.Questions.{Verdict, ◌then◌}
+use Rattle.arbiter.specs.Questions.{Verdict, refuse_unless, ◌then◌, max_picks}
 pub mod Known
+
+-- 3 of the adder, which has no stations: is the pick count 1 to the most?
+abbrev pub pick_count : ℕ → Verdict
+pick_count m = refuse_unless (leb 1 m && leb m max_picks) Picks
+
+-- 13: are both bytes thermometer codes for these picks?
+abbrev pub codes : ℕ → ℕ → ℕ → Verdict
+codes m a b = refuse_unless (ThermometerRule.is_code m a && ThermometerRule.is_code m b) Code
 
 -- 3, then 13
 abbrev pub questions : ℕ → ℕ → ℕ → Verdict
-questions m a b = Questions.pick_count m then Questions.codes m a b
+questions m a b = pick_count m then codes m a b
 
 -- the code of the sum, and whether anything was cut off
 abbrev pub joined : ℕ → ℕ → ℕ → Sum

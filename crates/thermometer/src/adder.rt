@@ -5,8 +5,9 @@ ghost use Rattle.rules.specs.Thermometer as ThermometerRule;
 ghost use Rattle.arbiter.specs.Questions as Questions;
 ghost use Rattle.thermometer.specs.Adder as Adder;
 
+use arbiter::MAX_PICKS;
+use arbiter::question::{self, Verdict};
 use arbiter::refusal::Refusal;
-use arbiter::{MAX_PICKS, question};
 
 // A number of picks, from 1 to 8, by its code. That another byte is a code for these picks is asked where that is used: codes stand in
 // buffers, as bytes, and the fact is one about both.
@@ -45,15 +46,28 @@ pub(crate) struct StepSum {
     pub(crate) whole: u32,
 }
 
-// The saturated sum. Asks 3 and 13. With 2 picks 01 and 01 give 11, and nothing is cut off; 11 and 01 give 11, and something is; 10 is
-// refused by 13.
+/// The saturated sum. Asks 3 and 13. With 2 picks 01 and 01 give 11, and nothing is cut off; 11 and 01 give 11, and something is; 10 is
+/// refused by 13.
 pub fn add(picks: usize, left: u8, right: u8) -> Result<Sum, Refusal>
     ensures { result ≡ Adder.sum picks left right }
 {
-    question::refuse_unless((1 <= picks) & (picks <= MAX_PICKS), Refusal::Picks)?;
-    let coded = is_code(picks, left) & is_code(picks, right);
-    question::refuse_unless(coded, Refusal::Code)?;
+    pick_count(picks)?;
+    codes(picks, left, right)?;
     Ok(join(picks, left, right))
+}
+
+// Question 3 of the adder, which has no stations: are the picks in 1 to `MAX_PICKS`?
+fn pick_count(picks: usize) -> Verdict
+    ensures { result ≡ Adder.pick_count picks }
+{
+    question::refuse_unless((1 <= picks) & (picks <= MAX_PICKS), Refusal::Picks)
+}
+
+// Question 13: are both bytes codes for these picks?
+fn codes(picks: usize, left: u8, right: u8) -> Verdict
+    ensures { result ≡ Adder.codes picks left right }
+{
+    question::refuse_unless(is_code(picks, left) & is_code(picks, right), Refusal::Code)
 }
 
 // The sum of two codes' counts.

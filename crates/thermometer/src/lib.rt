@@ -7,15 +7,15 @@ pub mod theorems;
 
 ghost use Rattle.std.specs.Prelude.{true, ◌≡◌, ◌≤◌, length};
 ghost use Rattle.rules.specs.Thermometer.{is_code};
-ghost use Rattle.arbiter.specs.Places.{Bits};
+ghost use Rattle.search.specs.Places.{Bits};
 ghost use Rattle.arbiter.specs.Questions as Questions;
 ghost use Rattle.thermometer.specs.Runs.{Ran};
 
 use adder::Picks;
 use arbiter::engine::{Arbiter, RoundRobin, ServedCycle};
 use arbiter::question::{self, Verdict};
-use arbiter::{Decision, State, decide, first_station};
-use rules::Head;
+use arbiter::refusal::Refusal;
+use arbiter::{Decision, Granted, State, decide, first_station};
 
 // A state that the thermometer arbiter serves.
 #[derive(Clone, Copy)]
@@ -35,12 +35,16 @@ impl Arbiter for Thermometer {
     ghost state_of = { λ thermometer. thermometer.0 };
 
     // Asks 1, 3 and 4.
-    fn ask(width: usize, picks: usize, head: Head) -> Verdict {
-        question::state(width, picks, head)
+    fn ask(state: &State) -> Verdict {
+        question::state(state)
     }
 
-    fn state(self) -> State {
-        self.0
+    fn state(&self) -> &State {
+        &self.0
+    }
+
+    fn settle(&mut self, decided: Result<Decision, Refusal>) -> Result<Granted, Refusal> {
+        self.0.settle(decided)
     }
 }
 
@@ -75,6 +79,7 @@ impl RoundRobin for Thermometer {
 // if the station asks and the count before it is below the picks. `reach` is the code of the largest whole sum of the run: above that of
 // the picks, it says that a step has cut something off. `walk` is how far the walk has come before, and the result how far it has come
 // then. A run takes the buffers and not the cycle, of which it would have to promise what stays.
+#[inline(never)]
 #[tactic(auto, using(rules::proofs::Thermometer::Laws::full_is_code, rules::proofs::Thermometer::Laws::full_ones))]
 fn count_run(
     picks: usize,

@@ -1,5 +1,5 @@
-// The token bus: a cycle grants the first station that asks from the token on, and the token moves by one when the grant is
-// acknowledged.
+//! The token bus: a cycle grants the first station that asks from the token on, and the token moves by one when the grant is
+//! acknowledged.
 #![tactic(auto)]
 
 mod question;
@@ -10,19 +10,18 @@ ghost use Rattle.rules.specs.Bus as BusRule;
 ghost use Rattle.rules.specs.RoundRobin.{start};
 ghost use Rattle.arbiter.specs.Answers as Answers;
 ghost use Rattle.arbiter.specs.Decisions.{requested};
-ghost use Rattle.arbiter.specs.Places as Places;
-ghost use Rattle.arbiter.specs.Places.{highest};
+ghost use Rattle.search.specs.Places as Places;
+ghost use Rattle.search.specs.Places.{highest};
 ghost use Rattle.arbiter.specs.Questions.{◌then◌};
 ghost use Rattle.token_bus.specs.Calls as BusCalls;
 
 use arbiter::engine::{Arbiter, ServedCycle};
 use arbiter::question::Verdict;
 use arbiter::refusal::Refusal;
-use arbiter::search::first_one;
-use arbiter::{Answer, Decision, State, first_station, headed, past};
-use rules::Head;
+use arbiter::{Answer, Decision, Granted, State, first_station, headed, past};
+use search::first_one;
 
-// A state that the token bus serves. Its head is the token.
+/// A state that the token bus serves. Its head is the token.
 #[derive(Clone, Copy)]
 pub struct TokenBus(pub State);
 
@@ -32,58 +31,77 @@ impl Arbiter for TokenBus {
     ghost state_of = { λ bus. bus.0 };
 
     // Asks 1, 3 and 4, and 4 refuses a state without a token: two picks are refused by 3, and of 4 stations token 4 by 4.
-    fn ask(width: usize, picks: usize, head: Head) -> Verdict {
-        question::state(width, picks, head)
+    fn ask(state: &State) -> Verdict {
+        question::state(state)
     }
 
-    fn state(self) -> State {
-        self.0
+    fn state(&self) -> &State {
+        &self.0
+    }
+
+    fn settle(&mut self, decided: Result<Decision, Refusal>) -> Result<Granted, Refusal> {
+        self.0.settle(decided)
     }
 }
 
 impl TokenBus {
-    // One cycle: writes the grant of these requests, and answers with the count of grants, the next state, and whether more
-    // are pending. Asks 1, 3, 4, 5, 6, 8 and 9. With 4 stations, token 2 and stations 0 and 1 asking it grants 0, and more are pending;
-    // the next token is 3 where acknowledge is 1, and 2 where it is 0.
-    #[tactic(auto, using(crate::specs::Calls::Laws::answered_cycle))]
-    pub fn cycle(self, requests: &[u8], grants: &mut [u8], acknowledge: u8) -> Answer
+    /// The questions of a cycle of this state, and what it decides where they pass; then it writes the grant of these requests. Asks 1, 3,
+    /// 4, 5, 6, 8 and 9. The state stays: `advance` and `cycle` take what is decided into it.
+    // Where the highest byte of the requests is 0 nobody asks, and the token stays.
+    #[tactic(auto, using(crate::specs::Calls::Laws::allowed))]
+    pub fn arbitrate(
+        state: &State,
+        requests: &[u8],
+        grants: &mut [u8],
+        acknowledge: u8,
+    ) -> Result<Decision, Refusal>
+        ensures value { Answers.answered state.now result ≡ (BusCalls.cycle state.now requests.now grants.old acknowledge).answer }
+        ensures grants_after { grants.new ≡ (BusCalls.cycle state.now requests.now grants.old acknowledge).written }
+    {
+        question::state(state)?;
+        let high = arbiter::question::cycle(state.width, requests, grants.len())?;
+        question::acknowledge(acknowledge)?;
+        if high == 0 {
+            grants.fill(0);
+            return Ok(headed(state.head));
+        }
+        let mut cycle = ServedCycle {
+            picks: state.picks,
+            head: state.head,
+            requests,
+            grants,
+        };
+        Ok(grant(&mut cycle, acknowledge == 1))
+    }
+
+    /// One cycle, in place: writes the grant of these requests, takes the next token, and answers with the count of grants and whether more
+    /// are pending. Asks 1, 3, 4, 5, 6, 8 and 9. With 4 stations, token 2 and stations 0 and 1 asking it grants 0, and more are pending;
+    /// the next token is 3 where acknowledge is 1, and 2 where it is 0.
+    pub fn advance(
+        &mut self,
+        requests: &[u8],
+        grants: &mut [u8],
+        acknowledge: u8,
+    ) -> Result<Granted, Refusal>
+        ensures value { result ≡ (BusCalls.cycle self.old.0 requests.now grants.old acknowledge).answer.outcome }
+        ensures state_after { self.new.0 ≡ (BusCalls.cycle self.old.0 requests.now grants.old acknowledge).answer.state }
+        ensures grants_after { grants.new ≡ (BusCalls.cycle self.old.0 requests.now grants.old acknowledge).written }
+    {
+        let decided = TokenBus::arbitrate(&self.0, requests, grants, acknowledge);
+        self.0.settle(decided)
+    }
+
+    /// The same with the state handed in and back.
+    pub fn cycle(mut self, requests: &[u8], grants: &mut [u8], acknowledge: u8) -> Answer<Granted>
         ensures value { result ≡ (BusCalls.cycle self.0 requests.now grants.old acknowledge).answer }
         ensures grants_after { grants.new ≡ (BusCalls.cycle self.0 requests.now grants.old acknowledge).written }
     {
-        let s = self.0;
-        let decided = arbitrate(s.width, s.picks, s.head, requests, grants, acknowledge);
-        s.answer(decided)
+        let outcome = self.advance(requests, grants, acknowledge);
+        Answer {
+            state: self.0,
+            outcome,
+        }
     }
-}
-
-// The questions of a cycle, and what it decides where they pass. Where the highest byte of the requests is 0 nobody asks, and the token
-// stays.
-#[tactic(auto, using(crate::specs::Calls::Laws::allowed))]
-fn arbitrate(
-    width: usize,
-    picks: usize,
-    head: Head,
-    requests: &[u8],
-    grants: &mut [u8],
-    acknowledge: u8,
-) -> Result<Decision, Refusal>
-    ensures value { result ≡ (BusCalls.questions width picks head requests.now (length grants.old) acknowledge then Ok (BusCalls.decision width (start head) (BusRule.acknowledged acknowledge) (requested requests.now))) }
-    ensures grants_after { grants.new ≡ Answers.if_passed (BusCalls.questions width picks head requests.now (length grants.old) acknowledge) (BusRule.grants width (start head) (requested requests.now)) (λ _. grants.old) }
-{
-    question::state(width, picks, head)?;
-    let high = arbiter::question::cycle(width, requests, grants.len())?;
-    question::acknowledge(acknowledge)?;
-    if high == 0 {
-        grants.fill(0);
-        return Ok(headed(head));
-    }
-    let mut cycle = ServedCycle {
-        picks,
-        head,
-        requests,
-        grants,
-    };
-    Ok(grant(&mut cycle, acknowledge == 1))
 }
 
 // Writes the grant of a cycle, and says what it decides: the token stays where nobody is granted.
@@ -103,9 +121,8 @@ fn grant(cycle: &mut ServedCycle<'_>, acknowledged: bool) -> Decision
     cycle.grants[station] = 1;
     let more = cycle.pending(1);
     Decision {
-        count: 1,
+        granted: Granted { count: 1, more },
         next: Some(pass(width, token, acknowledged)),
-        more,
     }
 }
 

@@ -4,6 +4,7 @@ use Rattle.std.specs.Prelude.{ℕ, ◌+◌, ◌*◌, Bool, cond, ◌&&◌, List,
 use Rattle.rules.specs.RoundRobin.{start}
 use Rattle.text.specs.Characters.{line_feed, space, digit, decimal, bits}
 use Rattle.arbiter.specs.declared.Answer.{Answer}
+use Rattle.arbiter.specs.declared.Granted.{Granted}
 use Rattle.arbiter.specs.declared.State.{State}
 use Rattle.arbiter.specs.declared.refusal.Refusal.{Refusal}
 use Rattle.arbiter.specs.declared.refusal.Refusal.TheVariants.{ReadLength}
@@ -16,7 +17,7 @@ use Rattle.transcript.specs.declared.first_line.Kind.TheVariants.{RoundRobin, To
 pub mod Laws
 
 -- "It together with no head, for B with token 0"
-abbrev pub opening : Kind → ℕ → ℕ → Answer
+abbrev pub opening : Kind → ℕ → ℕ → Answer (Unit {0})
 opening (RoundRobin e) n m = EngineCalls.opening e n m None
 opening TokenBus n m = BusCalls.opening n m (Some 0)
 
@@ -31,14 +32,14 @@ wire c = cond (eqb c (digit 0)) 0 (cond (eqb c (digit 1)) 1 2)
 
 -- a call with these requests, a grant buffer of zeros and, for the engines, a node buffer of zeros; what the grant buffer then
 -- holds. Only the bus reads the acknowledge byte
-abbrev pub called : Kind → State → List ℕ → ℕ → Effect
+abbrev pub called : Kind → State → List ℕ → ℕ → Effect Granted
 called (RoundRobin e) s requests byte =
     let o = EngineCalls.cycle e s requests (replicate s.width 0) (replicate (2 * s.width) 0) in
     record { answer = o.answer; written = o.grants }
 called TokenBus s requests byte = BusCalls.cycle s requests (replicate s.width 0) byte
 
 -- a cycle line: the characters of the stations are the requests, and for B the last one is the acknowledge byte
-unfoldable pub cycle : Kind → State → List ℕ → Effect
+unfoldable pub cycle : Kind → State → List ℕ → Effect Granted
 cycle kind s line =
     cond (well_formed kind s.width line)
     (called kind s (map wire (take s.width line)) (wire (get_or line (s.width + 1) 0)))
@@ -62,12 +63,12 @@ unfoldable pub granted : ℕ → List ℕ → ℕ → List ℕ
 granted k grants next = decimal k ++ ((space ∷ []) ++ (bits grants ++ ((space ∷ []) ++ (decimal next ++ (line_feed ∷ [])))))
 
 -- what the k-th cycle line prints: what a call came to, the grants, and the next head's station
-abbrev pub told : ℕ → Result ℕ Refusal → List ℕ → ℕ → List ℕ
-told k (Ok count) grants next = granted k grants next
+abbrev pub told : ℕ → Result Granted Refusal → List ℕ → ℕ → List ℕ
+told k (Ok _) grants next = granted k grants next
 told k (Err refusal) grants next = refused_line k refusal
 
 -- a served cycle ends with a head, and `start` is its station
-unfoldable pub printed : ℕ → Effect → List ℕ
+unfoldable pub printed : ℕ → Effect Granted → List ℕ
 printed k o = told k o.answer.outcome o.written (start o.answer.state.head)
 
 -- what the cycle lines from the k-th on print: "the run goes on with the old state" after a refused one, which its answer has

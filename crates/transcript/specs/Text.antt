@@ -26,8 +26,8 @@ abbrev pub read_size : ℕ
 read_size = max_input + 1
 
 -- what follows the heading once an engine is opened, given what the opening came to and the state that it made
-abbrev pub after_opening : Kind → Result ℕ Refusal → State → List (List ℕ) → List ℕ
-after_opening kind (Ok count) s ls = run kind s 1 ls
+abbrev pub after_opening : Kind → Result (Unit {0}) Refusal → State → List (List ℕ) → List ℕ
+after_opening kind (Ok _) s ls = run kind s 1 ls
 after_opening kind (Err refusal) s ls = refused_line 0 refusal
 
 -- what follows the heading once the first line is read: "A refused opening, and 11 or 12, print line number 0 in that form and

@@ -1,9 +1,10 @@
-// Opening an engine, and its cycle lines.
+//! Opening an engine, and its cycle lines.
 ghost use Rattle.std.specs.Prelude.{◌≡◌, ◌+◌, ◌≤◌, ◌==◌, true, map, length, get_or, replicate};
 ghost use Rattle.std.specs.Fn.{ComputesKey};
 ghost use Rattle.std.specs.Slice.Iter.{split_callee};
 ghost use Rattle.text.specs.Characters.{line_feed};
 ghost use Rattle.text.specs.Output.{Written};
+ghost use Rattle.arbiter.specs.Answers as Answers;
 ghost use Rattle.arbiter.specs.Questions.{max_width};
 ghost use Rattle.transcript.specs.Cycles as Cycles;
 ghost use Rattle.transcript.specs.Lines as Lines;
@@ -13,14 +14,14 @@ use crate::first_line::Kind;
 use crate::output;
 use arbiter::engine::Arbiter;
 use arbiter::refusal::Refusal;
-use arbiter::{Answer, MAX_WIDTH, State, first_station};
+use arbiter::{Answer, Decision, Granted, MAX_WIDTH, State, first_station};
 use engines::Dispatch;
 use std::slice::Split;
 use text::Output;
 use token_bus::TokenBus;
 
 // Opens an engine without a head, the bus with token 0.
-pub(crate) fn open(kind: Kind, width: usize, picks: usize) -> Answer
+pub(crate) fn open(kind: Kind, width: usize, picks: usize) -> Answer<()>
     ensures { result ≡ Cycles.opening kind width picks }
 {
     match kind {
@@ -42,7 +43,7 @@ pub(crate) struct Progress {
 impl Progress {
     // Runs the cycle lines that are left, and writes what each prints.
     pub(crate) fn print_lines<P: FnMut(&u8) -> bool>(
-        self,
+        mut self,
         lines: Split<'_, u8, P>,
         out: &mut Output,
     )
@@ -51,60 +52,68 @@ impl Progress {
         requires lines_bound { self.number + length (Lines.left lines) ≤ Text.max_input + 1 }
         ensures { Written out.old (Cycles.run self.kind self.state self.number (Lines.left lines.entry)) out.new }
     {
-        let mut run = self;
         for line in lines {
-            run = run.print_line(line, out);
+            self.print_line(line, out);
         }
     }
 
-    // One cycle line: runs it and writes what it prints.
+    // One cycle line: runs it, writes what it prints, and goes on to the next.
     #[tactic(auto, using(std::proofs::lemmas::List::take_at, crate::specs::Cycles::Laws::cycle_printable), unfolding(crate::specs::Cycles::printed))]
-    fn print_line(self, line: &[u8], out: &mut Output) -> Progress
-        requires number_bound { self.number ≤ Text.max_input + 1 }
-        ensures written { Written out.old (Cycles.printed self.number (Cycles.cycle self.kind self.state line.now)) out.new }
-        ensures same_kind { result.kind ≡ self.kind }
-        ensures state_value { result.state ≡ (Cycles.cycle self.kind self.state line.now).answer.state }
-        ensures number_value { result.number ≡ self.number + 1 }
+    fn print_line(&mut self, line: &[u8], out: &mut Output)
+        requires number_bound { self.old.number ≤ Text.max_input + 1 }
+        ensures written { Written out.old (Cycles.printed self.old.number (Cycles.cycle self.old.kind self.old.state line.now)) out.new }
+        ensures same_kind { self.new.kind ≡ self.old.kind }
+        ensures state_value { self.new.state ≡ (Cycles.cycle self.old.kind self.old.state line.now).answer.state }
+        ensures number_value { self.new.number ≡ self.old.number + 1 }
     {
         let mut grants = [0u8; MAX_WIDTH];
         let width = self.state.width;
-        let answer = self.cycle(line, &mut grants[..width]);
-        let state = answer.state;
-        let next = first_station(state.head);
-        output::put_cycle(self.number, answer.outcome, &grants[..width], next, out);
-        Progress {
-            kind: self.kind,
-            state,
-            number: self.number + 1,
-        }
+        let outcome = self.advance(line, &mut grants[..width]);
+        let next = first_station(self.state.head);
+        output::put_cycle(self.number, outcome, &grants[..width], next, out);
+        self.number += 1;
     }
 
     // The cycle of one line, with a grant buffer of zeros. Question 5 lets a line pass that has as many characters as there are
     // stations; on the bus, a space and the acknowledge character after them. Only the tree asks about the node buffer.
-    #[tactic(auto, unfolding(crate::specs::Cycles::cycle))]
-    fn cycle(self, line: &[u8], grants: &mut [u8]) -> Answer
-        requires { grants.old ≡ replicate self.state.width 0 }
-        ensures value { result ≡ (Cycles.cycle self.kind self.state line.now).answer }
-        ensures grants_after { grants.new ≡ (Cycles.cycle self.kind self.state line.now).written }
+    #[tactic(auto, using(crate::specs::Cycles::Laws::cycle_width), unfolding(crate::specs::Cycles::cycle))]
+    fn advance(&mut self, line: &[u8], grants: &mut [u8]) -> Result<Granted, Refusal>
+        requires { grants.old ≡ replicate self.old.state.width 0 }
+        ensures value { result ≡ (Cycles.cycle self.old.kind self.old.state line.now).answer.outcome }
+        ensures state_after { self.new.state ≡ (Cycles.cycle self.old.kind self.old.state line.now).answer.state }
+        ensures same_kind { self.new.kind ≡ self.old.kind }
+        ensures same_number { self.new.number ≡ self.old.number }
+        ensures grants_after { grants.new ≡ (Cycles.cycle self.old.kind self.old.state line.now).written }
     {
-        let s = self.state;
-        let Some((stations, rest)) = line.split_at_checked(s.width) else {
-            return s.answer(Err(Refusal::ReadLength));
-        };
-        let mut requests = [0u8; MAX_WIDTH];
-        let requests = &mut requests[..s.width];
-        read_wires(stations, requests);
-        match (self.kind, rest) {
-            (Kind::RoundRobin(engine), []) => {
-                let mut nodes = [0; 2 * MAX_WIDTH];
-                let end = 2 * s.width;
-                Dispatch(s).cycle(engine, requests, grants, &mut nodes[..end])
-            }
-            (Kind::TokenBus, [b' ', acknowledge]) => {
-                TokenBus(s).cycle(requests, grants, wire(*acknowledge))
-            }
-            _ => s.answer(Err(Refusal::ReadLength)),
+        let decided = decide(self.kind, &self.state, line, grants);
+        self.state.settle(decided)
+    }
+}
+
+// What the cycle of one line decides, or what refuses it.
+#[tactic(auto, unfolding(crate::specs::Cycles::cycle))]
+fn decide(kind: Kind, state: &State, line: &[u8], grants: &mut [u8]) -> Result<Decision, Refusal>
+    requires wide { state.now.width ≤ max_width }
+    requires zeros { grants.old ≡ replicate state.now.width 0 }
+    ensures value { Answers.answered state.now result ≡ (Cycles.cycle kind state.now line.now).answer }
+    ensures grants_after { grants.new ≡ (Cycles.cycle kind state.now line.now).written }
+{
+    let Some((stations, rest)) = line.split_at_checked(state.width) else {
+        return Err(Refusal::ReadLength);
+    };
+    let mut requests = [0u8; MAX_WIDTH];
+    let requests = &mut requests[..state.width];
+    read_wires(stations, requests);
+    match (kind, rest) {
+        (Kind::RoundRobin(engine), []) => {
+            let mut nodes = [0; 2 * MAX_WIDTH];
+            let end = 2 * state.width;
+            engine.arbitrate(state, requests, grants, &mut nodes[..end])
         }
+        (Kind::TokenBus, [b' ', acknowledge]) => {
+            TokenBus::arbitrate(state, requests, grants, wire(*acknowledge))
+        }
+        _ => Err(Refusal::ReadLength),
     }
 }
 

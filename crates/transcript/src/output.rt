@@ -3,6 +3,7 @@
 ghost use Rattle.text.specs.Output.{Written};
 ghost use Rattle.transcript.specs.Cycles as Cycles;
 
+use arbiter::Granted;
 use arbiter::refusal::Refusal;
 use text::Output;
 
@@ -33,7 +34,7 @@ pub(crate) fn put_granted(line: usize, grants: &[u8], next: usize, out: &mut Out
 // The line of a cycle line, by what the call came to.
 pub(crate) fn put_cycle(
     line: usize,
-    outcome: Result<usize, Refusal>,
+    outcome: Result<Granted, Refusal>,
     grants: &[u8],
     next: usize,
     out: &mut Output,

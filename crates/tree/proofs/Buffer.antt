@@ -21,7 +21,7 @@ use Rattle.rules.specs.Lists.Laws as ListsLaws
 use Rattle.rules.specs.Tree.{value, head_at, leaf, join, joined}
 use Rattle.rules.proofs.Tree.Laws.{value_below}
 use Rattle.arbiter.specs.Decisions.{requested}
-use Rattle.arbiter.specs.Places.{Bits}
+use Rattle.search.specs.Places.{Bits}
 use Rattle.tree.specs.Steps.{ValuesFrom, Level, DoneFrom}
 
 -- bytes that hold what f says, each at its place

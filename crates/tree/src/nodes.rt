@@ -5,7 +5,7 @@ ghost use Rattle.rules.specs.Lists.{range};
 ghost use Rattle.rules.specs.RoundRobin.{start};
 ghost use Rattle.rules.specs.Tree as TreeRule;
 ghost use Rattle.arbiter.specs.Decisions.{requested};
-ghost use Rattle.arbiter.specs.Places.{Bits};
+ghost use Rattle.search.specs.Places.{Bits};
 ghost use Rattle.tree.specs.Steps as TreeSteps;
 
 use arbiter::engine::ServedCycle;

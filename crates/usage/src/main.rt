@@ -1,7 +1,8 @@
 // A whole use of the calls, which docs/CALLING.md walks through: a line of four stations with two picks.
 #![tactic(auto)]
 
-use arbiter::{Answer, State};
+use arbiter::refusal::Refusal;
+use arbiter::{Granted, State};
 use engines::{Dispatch, Engine};
 use snapshot::Snapshot;
 use std::io;
@@ -16,17 +17,16 @@ fn main(rt: HostRuntime) -> io::Result<()> {
     go_on(&rt, state)
 }
 
-// Some cycles of the thermometer arbiter: each is given the state that the one before has answered with.
+// Some cycles of the thermometer arbiter, in place: each starts from the state that the one before has left.
 fn run(rt: &impl Print, state: State) -> io::Result<State> {
-    let mut state = state;
+    let mut line = Dispatch(state);
     let mut grants = [0; 4];
     let mut nodes = [0; 8];
     for requests in [[1, 1, 0, 1], [0, 0, 0, 1], [0, 0, 0, 0], [1, 0, 2, 1]] {
-        let answer = Dispatch(state).cycle(Engine::Thermometer, &requests, &mut grants, &mut nodes);
-        report(rt, answer, &grants)?;
-        state = answer.state;
+        let outcome = line.advance(Engine::Thermometer, &requests, &mut grants, &mut nodes);
+        report(rt, outcome, &line.0, &grants)?;
     }
-    Ok(state)
+    Ok(line.0)
 }
 
 // Saves the state as six bytes, and reads it back.
@@ -46,24 +46,28 @@ fn save(rt: &impl Print, state: State) -> io::Result<State> {
 
 // The scan goes on where the thermometer arbiter left off. The tree has one pick, so it refuses a state with two.
 fn go_on(rt: &impl Print, state: State) -> io::Result<()> {
+    let mut line = Dispatch(state);
     let mut grants = [0; 4];
     let mut nodes = [0; 8];
-    let mut state = state;
     for engine in [Engine::Scan, Engine::Tree] {
-        let answer = Dispatch(state).cycle(engine, &[1, 0, 1, 1], &mut grants, &mut nodes);
-        report(rt, answer, &grants)?;
-        state = answer.state;
+        let outcome = line.advance(engine, &[1, 0, 1, 1], &mut grants, &mut nodes);
+        report(rt, outcome, &line.0, &grants)?;
     }
     Ok(())
 }
 
-// Prints what a cycle has answered, and whom it has granted.
-fn report(rt: &impl Print, answer: Answer, grants: &[u8]) -> io::Result<()> {
-    match answer.outcome {
-        Ok(count) => {
+// Prints what a cycle came to, and whom it has granted.
+fn report(
+    rt: &impl Print,
+    outcome: Result<Granted, Refusal>,
+    state: &State,
+    grants: &[u8],
+) -> io::Result<()> {
+    match outcome {
+        Ok(granted) => {
             println!(rt;
-                "{count} granted: {grants:?}, next head {:?}, more pending: {}",
-                answer.state.head, answer.more
+                "{} granted: {grants:?}, next head {:?}, more pending: {}",
+                granted.count, state.head, granted.more
             )
         }
         Err(refusal) => {

@@ -2,7 +2,7 @@
 // refusals as numbers, and that the calls' refusals have these is tested too.
 use crate::engine::Engine;
 use arbiter::refusal::Refusal;
-use arbiter::{Answer, State};
+use arbiter::{Answer, Granted, State};
 use rules::Head;
 use thermometer::adder::Sum;
 
@@ -18,30 +18,32 @@ const NOTHING: State = State {
     head: None,
 };
 
-// Whether a call that is no cycle is served and leaves this state: it grants no one, and no more are pending.
-pub(crate) fn serves(a: Answer, state: State) -> bool {
-    grants(a, 0, state, false)
-}
-
-// Whether a cycle is served with this count, leaves this state and says this of more that are pending.
-pub(crate) fn grants(a: Answer, count: usize, state: State, more: bool) -> bool {
+// Whether a call that is no cycle is served and leaves this state.
+pub(crate) fn serves(a: Answer<()>, state: State) -> bool {
     a == Answer {
-        outcome: Ok(count),
         state,
-        more,
+        outcome: Ok(()),
     }
 }
 
-// Whether a call is refused by this number at this place and leaves this state. No refusal says that more are pending.
-pub(crate) fn refuses(a: Answer, number: usize, place: usize, state: State) -> bool {
-    let outcome = a
-        .outcome
-        .map_err(|refusal| (refusal.number(), refusal.place()));
-    outcome == Err((number, place)) && a.state == state && !a.more
+// Whether a cycle is served with this count, leaves this state and says this of more that are pending.
+pub(crate) fn grants(a: Answer<Granted>, count: usize, state: State, more: bool) -> bool {
+    a == Answer {
+        state,
+        outcome: Ok(Granted { count, more }),
+    }
+}
+
+// Whether a call is refused by this number at this place and leaves this state.
+pub(crate) fn refuses<T: Drop>(a: Answer<T>, number: usize, place: usize, state: State) -> bool {
+    match a.outcome {
+        Ok(_) => false,
+        Err(refusal) => (refusal.number(), refusal.place()) == (number, place) && a.state == state,
+    }
 }
 
 // Whether a call that makes a state is refused by this number at this place.
-pub(crate) fn makes_nothing(a: Answer, number: usize, place: usize) -> bool {
+pub(crate) fn makes_nothing(a: Answer<()>, number: usize, place: usize) -> bool {
     refuses(a, number, place, NOTHING)
 }
 

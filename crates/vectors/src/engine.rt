@@ -3,7 +3,7 @@ ghost use Rattle.std.specs.Prelude.{◌≤◌};
 
 use crate::{compare, packed};
 use arbiter::engine::Arbiter;
-use arbiter::{Answer, State};
+use arbiter::{Answer, Granted, State};
 use engines::Dispatch;
 use packed_scan::PackedScan;
 use token_bus::TokenBus;
@@ -75,7 +75,7 @@ impl Engine {
     }
 
     // Opens with a state's width and picks, and with its head if it has one.
-    pub(crate) fn open(self, s: State) -> Answer {
+    pub(crate) fn open(self, s: State) -> Answer<()> {
         match self {
             Engine::RoundRobin(engine) => opened(
                 s,
@@ -95,7 +95,7 @@ impl Engine {
         grants: &mut [u8],
         nodes: &mut [u8],
         acknowledge: u8,
-    ) -> Answer {
+    ) -> Answer<Granted> {
         match self {
             Engine::RoundRobin(engine) => Dispatch(s).cycle(engine, requests, grants, nodes),
             Engine::Bus => TokenBus(s).cycle(requests, grants, acknowledge),
@@ -105,11 +105,11 @@ impl Engine {
 }
 
 // What the opening without a head answers to a state, or where it has a head the opening with one.
-fn opened<F: FnOnce(usize, usize) -> Answer, G: FnOnce(usize, usize, usize) -> Answer>(
+fn opened<F: FnOnce(usize, usize) -> Answer<()>, G: FnOnce(usize, usize, usize) -> Answer<()>>(
     s: State,
     headless: F,
     headed: G,
-) -> Answer
+) -> Answer<()>
     requires without_head { F.IsAlwaysCallable headless }
     requires with_head { G.IsAlwaysCallable headed }
 {

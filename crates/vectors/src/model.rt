@@ -1,7 +1,7 @@
 // A served cycle against the model.
 use crate::engine::{self, Engine, NODES, WIDEST};
 use crate::{compare, packed};
-use arbiter::{Answer, State};
+use arbiter::{Answer, Granted, State};
 
 // What a cycle came to: whether it is as the model says, the state it left, and whether more are pending.
 #[derive(Clone, Copy)]
@@ -28,7 +28,7 @@ pub(crate) fn run(engine: Engine, s: State, requests: &[u8], acknowledge: u8) ->
     Cycle {
         same,
         state: a.state,
-        more: a.more,
+        more: a.outcome.is_ok_and(|granted| granted.more),
     }
 }
 
@@ -43,7 +43,7 @@ pub(crate) fn of(s: State, requests: &[u8]) -> reference::Cycle<'_> {
 }
 
 // Whether a served cycle is answered as the model says, with this next head or token.
-pub(crate) fn answers(model: &reference::Cycle<'_>, next: usize, a: Answer) -> bool {
+pub(crate) fn answers(model: &reference::Cycle<'_>, next: usize, a: Answer<Granted>) -> bool {
     let state = compare::state(model.width, model.picks, Some(next));
     compare::grants(a, model.count(), state, model.more())
 }

@@ -3,7 +3,7 @@ ghost use Rattle.std.specs.Prelude.{◌≤◌};
 
 use crate::engine::{Engine, WIDEST};
 use crate::{compare, model, small};
-use arbiter::{Answer, State};
+use arbiter::{Answer, Granted, State};
 use engines::Dispatch;
 use packed_scan::PackedScan;
 
@@ -122,7 +122,7 @@ pub(crate) fn size(n: usize) -> usize
 }
 
 // A cycle by the packed scan, with the wires packed before and the grants unpacked afterwards.
-pub(crate) fn cycle(s: State, requests: &[u8], grants: &mut [u8]) -> Answer {
+pub(crate) fn cycle(s: State, requests: &[u8], grants: &mut [u8]) -> Answer<Granted> {
     let mut granted = [0u8; BYTES];
     let a = packed_cycle(s, requests, &mut granted);
     if a.outcome.is_ok() {
@@ -132,7 +132,7 @@ pub(crate) fn cycle(s: State, requests: &[u8], grants: &mut [u8]) -> Answer {
 }
 
 // A cycle on the first of these bytes: as many as the wires take.
-fn packed_cycle(s: State, requests: &[u8], granted: &mut [u8; BYTES]) -> Answer {
+fn packed_cycle(s: State, requests: &[u8], granted: &mut [u8; BYTES]) -> Answer<Granted> {
     let size = size(requests.len());
     let mut packed = [0u8; BYTES];
     pack(requests, &mut packed);

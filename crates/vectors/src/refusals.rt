@@ -161,8 +161,11 @@ impl Faulty {
     }
 
     // Whether a call on `n` bytes refuses by the first fault, and leaves this state.
-    fn refused(self, a: Answer, n: usize, s: State) -> bool {
-        self.first().is_some_and(|fault| compare::refuses(a, fault.number(), self.place(n), s))
+    fn refused<T: Drop>(self, a: Answer<T>, n: usize, s: State) -> bool {
+        match self.first() {
+            Some(fault) => compare::refuses(a, fault.number(), self.place(n), s),
+            None => false,
+        }
     }
 }
 
@@ -364,7 +367,7 @@ fn read_image(f: Faulty, s: State, n: usize) -> bool {
 }
 
 // Writing a state as `n` bytes.
-fn writes<F: FnOnce(&mut [u8]) -> Answer>(f: Faulty, s: State, n: usize, write: F) -> bool
+fn writes<F: FnOnce(&mut [u8]) -> Answer<()>>(f: Faulty, s: State, n: usize, write: F) -> bool
     requires { F.IsAlwaysCallable write }
 {
     let mut written = [KEPT; ROOM];

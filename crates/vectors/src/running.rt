@@ -3,7 +3,7 @@
 // thermometer arbiter's, which must grant those at whose sum the code changes. Exactly if a sum was cut off more are pending, by the
 // model and by the thermometer arbiter.
 use crate::{compare, engine, model, small};
-use arbiter::State;
+use arbiter::{Granted, State};
 use thermometer::adder::{self, Sum};
 
 // A cycle with 2 picks, its codes, one more than the stations, and whether a sum is cut off.
@@ -93,10 +93,13 @@ fn agrees(s: State, requests: &[u8], codes: &[u8], cut: bool) -> bool {
     let grants = &mut grants[..requests.len().min(8)];
     let a = engine::THERMOMETER.cycle(s, requests, grants, &mut [], 0);
     let count = codes.last().map(|code| adder::count(*code));
+    let granted = Granted {
+        count: model.count(),
+        more: model.more(),
+    };
     count == Some(model.count())
-        && a.outcome == Ok(model.count())
+        && a.outcome == Ok(granted)
         && cut == model.more()
-        && a.more == cut
         && stations(&model, codes, grants)
 }
 

@@ -5,14 +5,14 @@ ghost use Rattle.std.specs.Prelude.{◌≤◌};
 use crate::conversions::byte;
 use crate::engine::Engine;
 use crate::{compare, model, small};
-use arbiter::{Answer, State};
+use arbiter::{Answer, Granted, State};
 use backlog::Backlog;
 
 // What a cycle came to: whether it is as the model says, and its answer.
 #[derive(Clone, Copy)]
 pub struct Cycle {
     pub same: bool,
-    pub answer: Answer,
+    pub answer: Answer<Granted>,
 }
 
 // Runs one cycle that is to be served, and compares it. The waiting numbers are then those that it left. `N` is the room for the

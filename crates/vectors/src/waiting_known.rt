@@ -1,7 +1,7 @@
 // Known cycles with messages waiting, of 4 stations.
 use crate::compare;
 use crate::engine::{DISPATCHED, Engine};
-use arbiter::{Answer, State};
+use arbiter::{Answer, Granted, State};
 use backlog::Backlog;
 
 // A cycle with messages waiting: what it is given, and what it leaves, or the place that 16 refuses.
@@ -248,7 +248,7 @@ impl KnownCycle {
 
 impl Served {
     // Whether this is answered from this state.
-    fn is(self, a: Answer, s: State) -> bool {
+    fn is(self, a: Answer<Granted>, s: State) -> bool {
         let next = compare::state(s.width, s.picks, Some(self.next));
         compare::grants(a, self.count, next, self.more)
     }

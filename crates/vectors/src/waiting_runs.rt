@@ -95,7 +95,9 @@ impl Run {
         let waiting = &mut self.waiting[..width];
         let cycle = waiting::run::<NODES>(engine, s, arrivals, waiting, grants);
         self.state = cycle.answer.state;
-        self.count = self.count.saturating_add(cycle.answer.outcome.unwrap_or(0));
+        self.count = self
+            .count
+            .saturating_add(cycle.answer.outcome.map_or(0, |granted| granted.count));
         self.add(arrivals, grants);
         cycle.same
     }

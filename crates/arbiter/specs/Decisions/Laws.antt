@@ -16,8 +16,8 @@ use Rattle.rules.proofs.Pending.Laws as PendingLaws
 use Rattle.rules.specs.Walk.{reached, Ran}
 use Rattle.rules.proofs.Walk.Laws as WalkLaws
 use Rattle.rules.proofs.Walk.Laws.{Walked}
-use Rattle.arbiter.specs.Places.{Bits, highest}
-use Rattle.arbiter.specs.Places.Laws.{highest_most, highest_least}
+use Rattle.search.specs.Places.{Bits, highest}
+use Rattle.search.specs.Places.Laws.{highest_most, highest_least}
 use Rattle.arbiter.specs.Decisions.{requested, decision, deciding, past, counted}
 
 -- one past a station is the next number, modulo the width

@@ -9,8 +9,8 @@ use Rattle.rules.specs.Lists.Laws as ListsLaws
 use Rattle.rules.specs.RoundRobin.{start, order, granted, grants}
 use Rattle.rules.proofs.Walk.Laws.{Walked}
 use Rattle.rules.proofs.RoundRobin.Laws as RoundRobinLaws
-use Rattle.arbiter.specs.Places.{ones, first}
-use Rattle.arbiter.specs.Places.Laws.{first_none, first_some}
+use Rattle.search.specs.Places.{ones, first}
+use Rattle.search.specs.Places.Laws.{first_none, first_some}
 use Rattle.arbiter.specs.Decisions.{requested}
 
 -- a list of one at most is its first

@@ -1,16 +1,19 @@
 -- Laws of the questions: what is known once all have passed, and what passes.
 -- Assumes nothing.
-use Rattle.std.specs.Prelude.{ℕ, ◌^◌, ◌≤◌, ◌<◌, ◌≡◌, refl, Bool, true, false, ◌&&◌, List, [], ◌∷◌, eqb, leb, ltb, length, get_or, None, Some, Result, Ok, Err}
+use Rattle.std.specs.Prelude.{ℕ, ◌≤◌, ◌<◌, ◌≡◌, refl, Bool, true, false, ◌&&◌, List, [], ◌∷◌, eqb, leb, ltb, length, get_or, None, Some, Result, Ok, Err}
 use Rattle.std.proofs.Common.{sym, ap, arith, eq-eqb, eqb-true, leb-true, ltb-true, ltb-false, le-leb, lt-ltb, le-ltb}
 use Rattle.rules.specs.Head.{Head}
 use Rattle.rules.specs.Lists.Laws as ListsLaws
 use Rattle.rules.specs.RoundRobin.{start}
 use Rattle.rules.proofs.RoundRobin.Laws as RoundRobinLaws
+use Rattle.arbiter.specs.declared.State.{State}
+use Rattle.arbiter.specs.declared.refusal.Buffer.{Buffer}
+use Rattle.arbiter.specs.declared.refusal.Buffer.TheVariants.{Requests}
 use Rattle.arbiter.specs.declared.refusal.Refusal.{Refusal}
 use Rattle.arbiter.specs.declared.refusal.Refusal.TheVariants.{NotABit}
-use Rattle.arbiter.specs.Places.{Bits, highest}
-use Rattle.arbiter.specs.Places.Laws.{Free, free_of, places_none, highest_bits, bits_highest}
-use Rattle.arbiter.specs.Questions.{Verdict, passed, refuse_unless, refuse_at_first, ◌then◌, max_width, max_picks, width, tree_width, picks, one_pick, head, token, read_length, write_length, bits, state_questions, write_questions, cycle_questions}
+use Rattle.search.specs.Places.{Bits, highest}
+use Rattle.search.specs.Places.Laws.{Free, free_of, places_none, highest_bits, bits_highest}
+use Rattle.arbiter.specs.Questions.{Verdict, passed, refuse_unless, refuse_at_first, ◌then◌, max_width, max_picks, width, picks, one_pick, head, read_length, write_length, bits, state_questions, write_questions, cycle_questions}
 
 -- it does not matter which questions are taken together
 pub then_assoc : {A : Type 0} (a b : Verdict) (c : Result A Refusal) → (a then b then c) ≡ (a then (b then c))
@@ -37,13 +40,13 @@ first_served refusal [] z = refl
 first_served refusal (p ∷ ps) z = let no : ⊥ = cc in absurd no
 
 -- what is known once 1, 3 and 4 have passed
-pub record Allowed (n m : ℕ) (h : Head) : Type 0 where
-  pub some : 1 ≤ n
-  pub most : n ≤ max_width
-  pub picked : 1 ≤ m
-  pub few : m ≤ max_picks
-  pub fit : m ≤ n
-  pub station : start h < n
+pub record Allowed (s : State) : Type 0 where
+  pub some : 1 ≤ s.width
+  pub most : s.width ≤ max_width
+  pub picked : 1 ≤ s.picks
+  pub few : s.picks ≤ max_picks
+  pub fit : s.picks ≤ s.width
+  pub station : start s.head < s.width
 
 pub width_served : (n : ℕ) → width n ≡ passed → (1 ≤ n) × (n ≤ max_width)
 width_served n z =
@@ -59,59 +62,51 @@ picks_served n m z =
 pub one_pick_served : (m : ℕ) → one_pick m ≡ passed → m ≡ 1
 one_pick_served m z = eqb-true m 1 (unless_served _ _ z)
 
-pub tree_width_served : (n : ℕ) → tree_width n ≡ passed → (k : ℕ) × (1 ≤ k) × (n ≡ 2 ^ k)
-tree_width_served n z =
-    let r = ListsLaws.table_entry (λ k. 2 ^ k) n 1 n (unless_served _ _ z) in (r.0, r.1, r.3)
-
 pub head_served : (n : ℕ) (h : Head) → 1 ≤ n → head n h ≡ passed → start h < n
 head_served n None l z = omega (arith, RoundRobinLaws.start_none)
 head_served n (Some h) l z = omega (arith, RoundRobinLaws.start_at h, ltb-true h n (unless_served _ _ z))
 
-pub token_served : (n : ℕ) (h : Head) → token n h ≡ passed → (t : ℕ) × (t < n) × (h ≡ Some t)
-token_served n None z = let no : ⊥ = cc in absurd no
-token_served n (Some t) z = (t, ltb-true t n (unless_served _ _ z), refl)
-
 pub length_served : (refusal : Refusal) (stated length : ℕ) → refuse_unless (eqb length stated) refusal ≡ passed → length ≡ stated
 length_served refusal stated length z = eqb-true length stated (unless_served _ _ z)
 
-pub bits_served : (bytes : List ℕ) → bits 0 bytes ≡ passed → Bits bytes
-bits_served bytes z i l =
+pub bits_served : (buffer : Buffer) (bytes : List ℕ) → bits buffer 0 bytes ≡ passed → Bits bytes
+bits_served buffer bytes z i l =
     let none = free_of {test = ltb 1} {from = 0} {bytes = bytes} (first_served _ _ z) in ltb-false 1 (get_or bytes i 0) (none.at i (omega arith) l)
 
 -- 8 passes exactly if the highest byte is at most 1
-pub highest_served : (bytes : List ℕ) → bits 0 bytes ≡ passed → highest bytes ≤ 1
-highest_served bytes z = bits_highest bytes (bits_served bytes z)
+pub highest_served : (buffer : Buffer) (bytes : List ℕ) → bits buffer 0 bytes ≡ passed → highest bytes ≤ 1
+highest_served buffer bytes z = bits_highest bytes (bits_served buffer bytes z)
 
-pub highest_passes : (bytes : List ℕ) → highest bytes ≤ 1 → bits 0 bytes ≡ passed
-highest_passes bytes l =
+pub highest_passes : (buffer : Buffer) (bytes : List ℕ) → highest bytes ≤ 1 → bits buffer 0 bytes ≡ passed
+highest_passes buffer bytes l =
     let free : Free (ltb 1) 0 (length bytes) bytes =
     record { at = λ k a u. le-ltb 1 (get_or bytes k 0) (highest_bits bytes l k u) } in
-    ap (refuse_at_first NotABit) (places_none free (omega arith))
+    ap (refuse_at_first (NotABit buffer)) (places_none free (omega arith))
 
-pub allowed : (n m : ℕ) (h : Head) → state_questions n m h ≡ passed → Allowed n m h
-allowed n m h z =
-    let two = then_served (width n then picks n m) (head n h) z in
-    let one = then_served (width n) (picks n m) two.0 in
-    let w = width_served n one.0 in
-    let p = picks_served n m one.1 in
+pub allowed : (s : State) → state_questions s ≡ passed → Allowed s
+allowed s z =
+    let two = then_served (width s.width then picks s.width s.picks) (head s.width s.head) z in
+    let one = then_served (width s.width) (picks s.width s.picks) two.0 in
+    let w = width_served s.width one.0 in
+    let p = picks_served s.width s.picks one.1 in
     record {
       some = w.0;
       most = w.1;
       picked = p.0;
       few = p.1;
       fit = p.2;
-      station = head_served n h w.0 two.1;
+      station = head_served s.width s.head w.0 two.1;
     }
 
 -- what is known of a call that writes once 1, 3, 4 and 6 have passed
-pub record Writable (n m : ℕ) (h : Head) (stated length : ℕ) : Type 0 where
-  pub allows : Allowed n m h
+pub record Writable (s : State) (stated length : ℕ) : Type 0 where
+  pub allows : Allowed s
   pub long : length ≡ stated
 
-pub writable : (n m : ℕ) (h : Head) (stated length : ℕ) → write_questions n m h stated length ≡ passed → Writable n m h stated length
-writable n m h stated length z =
-    let both = then_served (state_questions n m h) (write_length stated length) z in
-    record { allows = allowed n m h both.0; long = length_served _ stated length both.1 }
+pub writable : (s : State) (stated length : ℕ) → write_questions s stated length ≡ passed → Writable s stated length
+writable s stated length z =
+    let both = then_served (state_questions s) (write_length stated length) z in
+    record { allows = allowed s both.0; long = length_served _ stated length both.1 }
 
 -- what is known of a cycle once 5, 6 and 8 have passed
 pub record Lent (n : ℕ) (requests : List ℕ) (size : ℕ) : Type 0 where
@@ -122,27 +117,27 @@ pub record Lent (n : ℕ) (requests : List ℕ) (size : ℕ) : Type 0 where
 pub lent : (n : ℕ) (requests : List ℕ) (size : ℕ) → cycle_questions n requests size ≡ passed → Lent n requests size
 lent n requests size z =
     let five = read_length n (length requests) in
-    let b = then_served (five then write_length n size) (bits 0 requests) z in
+    let b = then_served (five then write_length n size) (bits Requests 0 requests) z in
     let a = then_served five (write_length n size) b.0 in
     record {
       asked = length_served _ n (length requests) a.0;
       room = length_served _ n size a.1;
-      wires = bits_served requests b.1;
+      wires = bits_served Requests requests b.1;
     }
 
 -- what is known of a cycle once 1, 3, 4, 5, 6 and 8 have passed
-pub record Ready (n m : ℕ) (h : Head) (requests : List ℕ) (size : ℕ) : Type 0 where
-  pub allows : Allowed n m h
-  pub lends : Lent n requests size
+pub record Ready (s : State) (requests : List ℕ) (size : ℕ) : Type 0 where
+  pub allows : Allowed s
+  pub lends : Lent s.width requests size
 
-pub ready : (n m : ℕ) (h : Head) (requests : List ℕ) (size : ℕ) → (state_questions n m h then cycle_questions n requests size) ≡ passed
-    → Ready n m h requests size
-ready n m h requests size z =
-    let both = then_served (state_questions n m h) (cycle_questions n requests size) z in
-    record { allows = allowed n m h both.0; lends = lent n requests size both.1 }
+pub ready : (s : State) (requests : List ℕ) (size : ℕ) → (state_questions s then cycle_questions s.width requests size) ≡ passed
+    → Ready s requests size
+ready s requests size z =
+    let both = then_served (state_questions s) (cycle_questions s.width requests size) z in
+    record { allows = allowed s both.0; lends = lent s.width requests size both.1 }
 
 -- the same told by the requests alone: there is one for each station
-pub of_requests : {n m size : ℕ} {h : Head} {requests : List ℕ} → Ready n m h requests size → Ready (length requests) m h requests size
+pub of_requests : {s : State} {requests : List ℕ} {size : ℕ} → Ready s requests size → Ready (record s { width = length requests }) requests size
 of_requests r = rw r.lends.asked r
 
 -- questions that pass
@@ -156,17 +151,17 @@ pub head_passes : (n : ℕ) (h : Head) → start h < n → head n h ≡ passed
 head_passes n None l = refl
 head_passes n (Some h) l = let below : h < n = omega (arith, RoundRobinLaws.start_at h) in rw (lt-ltb h n below)
 
-pub allows : (n m : ℕ) (h : Head) → Allowed n m h → state_questions n m h ≡ passed
-allows n m h a =
-    then_passed _ (head n h)
-    (then_passed (width n) _ (width_passes n a.some a.most) (picks_passes n m a.picked a.few a.fit))
-    (head_passes n h a.station)
+pub allows : (s : State) → Allowed s → state_questions s ≡ passed
+allows s a =
+    then_passed _ (head s.width s.head)
+    (then_passed (width s.width) _ (width_passes s.width a.some a.most) (picks_passes s.width s.picks a.picked a.few a.fit))
+    (head_passes s.width s.head a.station)
 
-pub writes : (n m : ℕ) (h : Head) (stated length : ℕ) → Allowed n m h → length ≡ stated → write_questions n m h stated length ≡ passed
-writes n m h stated length a e = then_passed (state_questions n m h) _ (allows n m h a) (rw (eq-eqb length stated e))
+pub writes : (s : State) (stated length : ℕ) → Allowed s → length ≡ stated → write_questions s stated length ≡ passed
+writes s stated length a e = then_passed (state_questions s) _ (allows s a) (rw (eq-eqb length stated e))
 
-pub bits_passes : (bytes : List ℕ) → Bits bytes → bits 0 bytes ≡ passed
-bits_passes bytes b = highest_passes bytes (bits_highest bytes b)
+pub bits_passes : (buffer : Buffer) (bytes : List ℕ) → Bits bytes → bits buffer 0 bytes ≡ passed
+bits_passes buffer bytes b = highest_passes buffer bytes (bits_highest bytes b)
 
 -- another head that is none or a station passes where one did
 pub head_moves : (a : Verdict) (n : ℕ) (h k : Head) → (a then head n h) ≡ passed → start k < n → (a then head n k) ≡ passed
@@ -177,7 +172,7 @@ pub lends : (n : ℕ) (requests : List ℕ) (size : ℕ) → length requests ≡
 lends n requests size long room wires =
     then_passed (read_length n (length requests) then write_length n size) _
     (then_passed (read_length n (length requests)) _ (rw (eq-eqb (length requests) n long)) (rw (eq-eqb size n room)))
-    (bits_passes requests wires)
+    (bits_passes Requests requests wires)
 
 -- a cycle that has asked all its questions in two steps has passed them, and has the highest byte in hand
 pub read_passed : {u : Unit {0}} {high : ℕ} (byState : Verdict) (n : ℕ) (requests : List ℕ) (size : ℕ) → byState ≡ Ok u

@@ -1,7 +1,7 @@
 -- Laws of the backlog's calls: what is known once the questions have passed, what a served and a refused call leave, and the numbers
 -- station by station.
 -- Assumes nothing.
-use Rattle.std.specs.Prelude.{ℕ, ◌+◌, ◌-◌, ◌≤◌, ◌<◌, ◌≡◌, true, false, List, map, ltb, length, get_or, Err}
+use Rattle.std.specs.Prelude.{ℕ, ◌+◌, ◌-◌, ◌≤◌, ◌<◌, ◌≡◌, true, List, map, ltb, length, get_or, Err}
 use Rattle.std.proofs.Common.{refl, sym, ap, ◌∙◌, arith, zero-add, ltb-true, ltb-false, le-ltb}
 use lib.ListN.{get_or-eq_default}
 use Rattle.rules.specs.Lists.{bit, range}
@@ -10,10 +10,10 @@ use Rattle.rules.proofs.RoundRobin.Laws as RoundRobinLaws
 use Rattle.arbiter.specs.declared.State.{State}
 use Rattle.arbiter.specs.declared.refusal.Refusal.{Refusal}
 use Rattle.arbiter.specs.declared.refusal.Refusal.TheVariants.{Overflow}
-use Rattle.arbiter.specs.Places.{Bits}
-use Rattle.arbiter.specs.Places.Laws.{Free, free_of, places_none}
+use Rattle.search.specs.Places.{Bits}
+use Rattle.search.specs.Places.Laws.{Free, free_of, places_none}
 use Rattle.arbiter.specs.Questions as Questions
-use Rattle.arbiter.specs.Questions.{Verdict, passed, ◌then◌, refuse_at_first, max_waiting}
+use Rattle.arbiter.specs.Questions.{Verdict, passed, ◌then◌, refuse_at_first}
 use Rattle.arbiter.specs.Questions.Laws.{then_served, first_served, length_served}
 use Rattle.arbiter.specs.Answers.{number, refused}
 use Rattle.arbiter.specs.Answers.Laws.{served_passed, passed_is, if_refused, passed_opened}
@@ -21,7 +21,7 @@ use Rattle.arbiter.specs.Decisions.{requested}
 use Rattle.engines.specs.declared.Engine.{Engine}
 use Rattle.engines.specs.Calls as EngineCalls
 use Rattle.engines.specs.Calls.Laws.{Served, engine_served, granted_asks, engine_serves, opens_allowed}
-use Rattle.backlog.specs.Calls.{BacklogEffect, arrived, requests, taken, lent_questions, questions, cycle}
+use Rattle.backlog.specs.Calls.{BacklogEffect, arrived, requests, taken, max_waiting, waiting_length, overflow, lent_questions, questions, cycle}
 
 -- a table over the places of a list, where its entry is 0 past the end: it holds at each place the entry
 table_at : (f : ℕ → ℕ) (n w : ℕ) → (n ≤ w → f w ≡ 0) → get_or (map f (range 0 n)) w 0 ≡ f w
@@ -83,7 +83,7 @@ pub record Lent (e : Engine) (n : ℕ) (arrivals waiting : List ℕ) (grantsSize
   pub fits : (w : ℕ) → w < n → get_or waiting w 0 + get_or arrivals w 0 ≤ max_waiting
 
 -- question 16 passes where all numbers stay within the most
-pub overflow_passes : (numbers : List ℕ) → ((w : ℕ) → w < length numbers → get_or numbers w 0 ≤ max_waiting) → Questions.overflow numbers ≡ passed
+pub overflow_passes : (numbers : List ℕ) → ((w : ℕ) → w < length numbers → get_or numbers w 0 ≤ max_waiting) → overflow numbers ≡ passed
 overflow_passes numbers within =
     let free : Free (ltb max_waiting) 0 (length numbers) numbers = record { at = λ k l u. le-ltb max_waiting (get_or numbers k 0) (within k u) } in
     ap (refuse_at_first Overflow) (places_none free (omega arith))
@@ -93,11 +93,11 @@ pub lent : (e : Engine) (n : ℕ) (arrivals waiting : List ℕ) (grantsSize node
 lent e n arrivals waiting grantsSize nodesSize z =
     let five = Questions.read_length n (length arrivals) in
     let six = five then Questions.write_length n grantsSize in
-    let fifteen = six then Questions.waiting_length n (length waiting) in
+    let fifteen = six then waiting_length n (length waiting) in
     let seven = fifteen then EngineCalls.nodes_question e n nodesSize in
-    let d = then_served seven (Questions.overflow (arrived waiting arrivals)) z in
+    let d = then_served seven (overflow (arrived waiting arrivals)) z in
     let c = then_served fifteen (EngineCalls.nodes_question e n nodesSize) d.0 in
-    let b = then_served six (Questions.waiting_length n (length waiting)) c.0 in
+    let b = then_served six (waiting_length n (length waiting)) c.0 in
     let a = then_served five (Questions.write_length n grantsSize) b.0 in
     let came : length arrivals ≡ n = length_served _ n (length arrivals) a.0 in
     let long : length waiting ≡ n = length_served _ n (length waiting) b.1 in
@@ -118,7 +118,7 @@ lent e n arrivals waiting grantsSize nodesSize z =
 -- a call, with the engine's own cycle in it
 module _ (e : Engine) (s : State) (arrivals waiting grants nodes : List ℕ) where
   abbrev verdict : Verdict
-  verdict = questions e s.width s.picks s.head arrivals waiting (length grants) (length nodes)
+  verdict = questions e s arrivals waiting (length grants) (length nodes)
 
   abbrev numbers : List ℕ
   numbers = arrived waiting arrivals
@@ -142,14 +142,14 @@ module _ (e : Engine) (s : State) (arrivals waiting grants nodes : List ℕ) whe
 
   -- what is known where the questions pass
   pub lent_passed : verdict ≡ passed → Lent e s.width arrivals waiting (length grants) (length nodes)
-  lent_passed z = lent e s.width arrivals waiting (length grants) (length nodes) (then_served (EngineCalls.state_questions e s.width s.picks s.head) _ z).1
+  lent_passed z = lent e s.width arrivals waiting (length grants) (length nodes) (then_served (EngineCalls.state_questions e s) _ z).1
 
   -- the engine serves its cycle
   pub engine_number : verdict ≡ passed → number (EngineCalls.cycle e s (requests numbers) grants nodes).answer ≡ 0
   engine_number z =
       let l = lent_passed z in
-      let opens = passed_opened _ s.width s.picks s.head (then_served (EngineCalls.state_questions e s.width s.picks s.head) _ z).0 in
-      engine_serves s s.head (requests numbers) grants nodes (opens_allowed e s.width s.picks s.head opens).station
+      let opens = passed_opened _ s (then_served (EngineCalls.state_questions e s) _ z).0 in
+      engine_serves s s.head (requests numbers) grants nodes (opens_allowed e s opens).station
       (requests_length numbers ∙ arrived_length waiting arrivals ∙ l.counted)
       l.room (requests_bits numbers) e opens l.space
 
@@ -176,13 +176,13 @@ module _ (e : Engine) (s : State) (arrivals waiting grants nodes : List ℕ) whe
       let p = served_passes z in
       rw (passed_cycle p) (engine_served e s (requests numbers) grants nodes (engine_number p))
 
-  -- a refused one changes nothing, and no more are pending
+  -- a refused one changes nothing
   pub backlog_refused : let o = cycle e s arrivals waiting grants nodes in
       (number o.answer ≡ 0 → ⊥)
-      → (o.answer.state ≡ s) × (o.waiting ≡ waiting) × (o.grants ≡ grants) × (o.nodes ≡ nodes) × (o.answer.more ≡ false)
+      → (o.answer.state ≡ s) × (o.waiting ≡ waiting) × (o.grants ≡ grants) × (o.nodes ≡ nodes)
   unfolding cycle
   backlog_refused n =
       if_refused verdict _ _
-      (λ (o : BacklogEffect). (o.answer.state ≡ s) × (o.waiting ≡ waiting) × (o.grants ≡ grants) × (o.nodes ≡ nodes) × (o.answer.more ≡ false))
+      (λ (o : BacklogEffect). (o.answer.state ≡ s) × (o.waiting ≡ waiting) × (o.grants ≡ grants) × (o.nodes ≡ nodes))
       (λ p. n (ap (λ (o : BacklogEffect). number o.answer) (passed_is verdict _ _ p) ∙ engine_number p))
-      (λ e f. (refl, refl, refl, refl, refl))
+      (λ e f. (refl, refl, refl, refl))

@@ -2,7 +2,7 @@
 -- Promises `Served`, `rule_grants`, `granted_asks`, `engine_served`, `engine_refused`, `engine_serves`, `nodes_fit`,
 -- `engine_opens` and `opens_allowed`. The rest are steps of their proofs.
 -- Assumes nothing.
-use Rattle.std.specs.Prelude.{ℕ, ◌*◌, ◌≤◌, ◌<◌, ◌≡◌, true, false, List, ltb, length}
+use Rattle.std.specs.Prelude.{ℕ, ◌*◌, ◌≤◌, ◌<◌, ◌≡◌, true, List, ltb, length}
 use Rattle.std.proofs.Math.Bool.{true≢false}
 use Rattle.std.proofs.Math.Path.{refl, ap}
 use Rattle.std.proofs.Common.{sym, ◌∙◌, arith, eq-eqb, ltb-true, ltb-false}
@@ -13,13 +13,15 @@ use Rattle.rules.specs.Lists.Laws as ListsLaws
 use Rattle.rules.specs.RoundRobin.{start, granted}
 use Rattle.rules.proofs.RoundRobin.Laws as RoundRobinLaws
 use Rattle.arbiter.specs.declared.Answer.{Answer}
+use Rattle.arbiter.specs.declared.Granted.{Granted}
 use Rattle.arbiter.specs.declared.State.{State}
-use Rattle.arbiter.specs.Places.{Bits}
+use Rattle.arbiter.specs.declared.refusal.Buffer.TheVariants.{Requests}
+use Rattle.search.specs.Places.{Bits}
 use Rattle.arbiter.specs.Questions as Questions
 use Rattle.arbiter.specs.Questions.{Verdict, passed, ◌then◌}
 use Rattle.arbiter.specs.Questions.Laws as QuestionsLaws
 use Rattle.arbiter.specs.Answers as Answers
-use Rattle.arbiter.specs.Answers.{number}
+use Rattle.arbiter.specs.Answers.{moved, number}
 use Rattle.arbiter.specs.Answers.Laws.{served_passed, passed_is, if_refused, writes_passed, writes_is, writes_refused, opened_passed, passed_opened}
 use Rattle.arbiter.specs.Cycle as RoundRobinCalls
 use Rattle.arbiter.specs.Decisions.{requested}
@@ -31,14 +33,14 @@ use Rattle.engines.specs.declared.Engine.TheVariants.{Scan, Tree, Thermometer, K
 use Rattle.engines.specs.Calls.{nodes_question, opening, cycle}
 
 -- a cycle that was served by the rule: what its state and its requests were, what it answered, and what its grant buffer holds
-pub record Served (s : State) (requests : List ℕ) (answer : Answer) (grants : List ℕ) : Type 0 where
-  pub allows : QuestionsLaws.Allowed s.width s.picks s.head
+pub record Served (s : State) (requests : List ℕ) (answer : Answer Granted) (grants : List ℕ) : Type 0 where
+  pub allows : QuestionsLaws.Allowed s
   pub asked : length requests ≡ s.width
   pub answers : answer ≡ RoundRobinCalls.answer s requests
   pub granted : grants ≡ RoundRobinCalls.granting s requests
 
 -- its grant buffer holds 1 for those whom the rule grants alone
-pub rule_grants : {s : State} {requests : List ℕ} {answer : Answer} {grants : List ℕ} → Served s requests answer grants
+pub rule_grants : {s : State} {requests : List ℕ} {answer : Answer Granted} {grants : List ℕ} → Served s requests answer grants
     → (w : ℕ) → requested grants w ≡ member w (granted s.width s.picks s.head (requested requests))
 rule_grants {s} {requests} r w =
     let asks = requested requests in
@@ -50,7 +52,7 @@ rule_grants {s} {requests} r w =
     (sym (RoundRobinLaws.granted_outside s.width s.picks s.head asks w (omega (arith, r.allows.station)) out)))
 
 -- so whoever has a 1 there is a station that asks
-pub granted_asks : {s : State} {requests : List ℕ} {answer : Answer} {grants : List ℕ} → Served s requests answer grants
+pub granted_asks : {s : State} {requests : List ℕ} {answer : Answer Granted} {grants : List ℕ} → Served s requests answer grants
     → (w : ℕ) → requested grants w ≡ true → requested requests w ≡ true
 granted_asks {s} {requests} r w t =
     let asks = requested requests in
@@ -64,25 +66,25 @@ granted_asks {s} {requests} r w t =
 cycle_served : (s : State) (requests former : List ℕ)
     → let o = RoundRobinCalls.cycle s requests former in number o.answer ≡ 0 → Served s requests o.answer o.written
 cycle_served s requests former z =
-    let v = RoundRobinCalls.questions s.width s.picks s.head requests (length former) in
+    let v = RoundRobinCalls.questions s requests (length former) in
     let p = writes_passed v s _ _ former z in
-    let r = QuestionsLaws.ready s.width s.picks s.head requests (length former) p in
+    let r = QuestionsLaws.ready s requests (length former) p in
     let is = writes_is v s (RoundRobinCalls.answer s requests) (RoundRobinCalls.granting s requests) former p in
     record {
       allows = r.allows;
       asked = r.lends.asked;
-      answers = ap (λ (o : Answers.Effect). o.answer) is;
-      granted = ap (λ (o : Answers.Effect). o.written) is;
+      answers = ap (λ (o : Answers.Effect Granted). o.answer) is;
+      granted = ap (λ (o : Answers.Effect Granted). o.written) is;
     }
 
 cycle_refused : (s : State) (requests former : List ℕ)
     → let o = RoundRobinCalls.cycle s requests former in
-    (number o.answer ≡ 0 → ⊥) → (o.answer.state ≡ s) × (o.written ≡ former) × (o.answer.more ≡ false)
+    (number o.answer ≡ 0 → ⊥) → (o.answer.state ≡ s) × (o.written ≡ former)
 cycle_refused s requests former n =
-    writes_refused (RoundRobinCalls.questions s.width s.picks s.head requests (length former)) s (RoundRobinCalls.answer s requests) (RoundRobinCalls.granting s requests) former refl n
+    writes_refused (RoundRobinCalls.questions s requests (length former)) s (RoundRobinCalls.answer s requests) (RoundRobinCalls.granting s requests) former refl n
 
 -- a state that the tree serves, every engine of the rule serves
-as_allowed : {n m : ℕ} {h : Head} → TreeCallsLaws.Allowed n m h → QuestionsLaws.Allowed n m h
+as_allowed : {s : State} → TreeCallsLaws.Allowed s → QuestionsLaws.Allowed s
 as_allowed a = record {
   some = a.some;
   most = a.most;
@@ -95,13 +97,13 @@ as_allowed a = record {
 -- the tree
 module _ (s : State) (requests former nodes : List ℕ) where
   abbrev questions : Verdict
-  questions = TreeCalls.questions s.width s.picks s.head requests (length former) (length nodes)
+  questions = TreeCalls.questions s requests (length former) (length nodes)
 
   tree_served : let o = TreeCalls.cycle s requests former nodes in number o.answer ≡ 0 → Served s requests o.answer o.grants
   unfolding TreeCalls.cycle
   tree_served z =
       let p = served_passed questions _ _ (λ (o : TreeEffect). number o.answer) (λ e f. refl) z in
-      let r = TreeCallsLaws.ready s.width s.picks s.head requests (length former) (length nodes) p in
+      let r = TreeCallsLaws.ready s requests (length former) (length nodes) p in
       record {
         allows = as_allowed r.allows;
         asked = r.asked;
@@ -110,12 +112,12 @@ module _ (s : State) (requests former nodes : List ℕ) where
       }
 
   tree_refused : let o = TreeCalls.cycle s requests former nodes in
-      (number o.answer ≡ 0 → ⊥) → (o.answer.state ≡ s) × (o.grants ≡ former) × (o.nodes ≡ nodes) × (o.answer.more ≡ false)
+      (number o.answer ≡ 0 → ⊥) → (o.answer.state ≡ s) × (o.grants ≡ former) × (o.nodes ≡ nodes)
   unfolding TreeCalls.cycle
   tree_refused n =
-      if_refused questions _ _ (λ (o : TreeEffect). (o.answer.state ≡ s) × (o.grants ≡ former) × (o.nodes ≡ nodes) × (o.answer.more ≡ false))
+      if_refused questions _ _ (λ (o : TreeEffect). (o.answer.state ≡ s) × (o.grants ≡ former) × (o.nodes ≡ nodes))
       (λ p. n (ap (λ (o : TreeEffect). number o.answer) (passed_is questions _ _ p)))
-      (λ e f. (refl, refl, refl, refl))
+      (λ e f. (refl, refl, refl))
 
 -- so every cycle is served by the rule
 pub engine_served : (e : Engine) (s : State) (requests former nodes : List ℕ)
@@ -125,14 +127,14 @@ engine_served Tree s requests former nodes z = tree_served s requests former nod
 engine_served Thermometer s requests former nodes z = cycle_served s requests former z
 engine_served KoggeStone s requests former nodes z = cycle_served s requests former z
 
--- or changes nothing, and no more are pending
+-- or changes nothing
 pub engine_refused : (e : Engine) (s : State) (requests former nodes : List ℕ)
     → let o = cycle e s requests former nodes in
-    (number o.answer ≡ 0 → ⊥) → (o.answer.state ≡ s) × (o.grants ≡ former) × (o.nodes ≡ nodes) × (o.answer.more ≡ false)
-engine_refused Scan s requests former nodes n = let u = cycle_refused s requests former n in (u.0, u.1, refl, u.2)
+    (number o.answer ≡ 0 → ⊥) → (o.answer.state ≡ s) × (o.grants ≡ former) × (o.nodes ≡ nodes)
+engine_refused Scan s requests former nodes n = let u = cycle_refused s requests former n in (u.0, u.1, refl)
 engine_refused Tree s requests former nodes n = tree_refused s requests former nodes n
-engine_refused Thermometer s requests former nodes n = let u = cycle_refused s requests former n in (u.0, u.1, refl, u.2)
-engine_refused KoggeStone s requests former nodes n = let u = cycle_refused s requests former n in (u.0, u.1, refl, u.2)
+engine_refused Thermometer s requests former nodes n = let u = cycle_refused s requests former n in (u.0, u.1, refl)
+engine_refused KoggeStone s requests former nodes n = let u = cycle_refused s requests former n in (u.0, u.1, refl)
 
 -- a state that an engine opens with any head, requests and grants for each station, and bytes that are bits: it serves the cycle,
 -- the tree with its nodes
@@ -141,24 +143,24 @@ module _ (s : State) (k : Head) (requests former nodes : List ℕ) (head : start
   cycle_serves : number (RoundRobinCalls.opening s.width s.picks k) ≡ 0 → number (RoundRobinCalls.cycle s requests former).answer ≡ 0
   cycle_serves z =
       let before = Questions.width s.width then Questions.picks s.width s.picks in
-      let p = QuestionsLaws.head_moves before s.width k s.head (opened_passed _ s.width s.picks k z) head in
-      let v = RoundRobinCalls.questions s.width s.picks s.head requests (length former) in
-      ap (λ (o : Answers.Effect). number o.answer)
+      let p = QuestionsLaws.head_moves before s.width k s.head (opened_passed _ (moved s k) z) head in
+      let v = RoundRobinCalls.questions s requests (length former) in
+      ap (λ (o : Answers.Effect Granted). number o.answer)
       (writes_is v s (RoundRobinCalls.answer s requests) (RoundRobinCalls.granting s requests) former
       (QuestionsLaws.then_passed _ _ p (QuestionsLaws.lends s.width requests (length former) asked room wires)))
 
-  tree_serves : number (TreeCalls.opening s.width s.picks k) ≡ 0 → Questions.nodes_length s.width (length nodes) ≡ passed
+  tree_serves : number (TreeCalls.opening s.width s.picks k) ≡ 0 → TreeCalls.nodes_length s.width (length nodes) ≡ passed
       → number (TreeCalls.cycle s requests former nodes).answer ≡ 0
   unfolding TreeCalls.cycle
   tree_serves z space =
       let n = s.width in
-      let before = Questions.width n then Questions.tree_width n then Questions.one_pick s.picks in
-      let four = QuestionsLaws.head_moves before n k s.head (opened_passed _ n s.picks k z) head in
-      let five = QuestionsLaws.then_passed _ (Questions.read_length n (length requests)) four (rw (eq-eqb (length requests) n asked)) in
+      let before = Questions.width n then TreeCalls.tree_width n then Questions.one_pick s.picks in
+      let four = QuestionsLaws.head_moves before n k s.head (opened_passed _ (moved s k) z) head in
+      let five = QuestionsLaws.then_passed (TreeCalls.state_questions s) (Questions.read_length n (length requests)) four (rw (eq-eqb (length requests) n asked)) in
       let six = QuestionsLaws.then_passed _ (Questions.write_length n (length former)) five (rw (eq-eqb (length former) n room)) in
-      let seven = QuestionsLaws.then_passed _ (Questions.nodes_length n (length nodes)) six space in
+      let seven = QuestionsLaws.then_passed _ (TreeCalls.nodes_length n (length nodes)) six space in
       ap (λ (o : TreeEffect). number o.answer)
-      (passed_is (questions s requests former nodes) _ _ (QuestionsLaws.then_passed _ (Questions.bits 0 requests) seven (QuestionsLaws.bits_passes requests wires)))
+      (passed_is (questions s requests former nodes) _ _ (QuestionsLaws.then_passed _ (Questions.bits Requests 0 requests) seven (QuestionsLaws.bits_passes Requests requests wires)))
 
   pub engine_serves : (e : Engine) → number (opening e s.width s.picks k) ≡ 0 → nodes_question e s.width (length nodes) ≡ passed
       → number (cycle e s requests former nodes).answer ≡ 0
@@ -175,12 +177,12 @@ nodes_fit Thermometer n size long = refl
 nodes_fit KoggeStone n size long = refl
 
 -- whatever serves a cycle, the scan opens the state
-pub engine_opens : (s : State) → QuestionsLaws.Allowed s.width s.picks s.head → number (opening Scan s.width s.picks s.head) ≡ 0
-engine_opens s a = passed_opened _ s.width s.picks s.head (QuestionsLaws.allows s.width s.picks s.head a)
+pub engine_opens : (s : State) → QuestionsLaws.Allowed s → number (opening Scan s.width s.picks s.head) ≡ 0
+engine_opens s a = passed_opened _ s (QuestionsLaws.allows s a)
 
 -- what is known of a state that an engine opens
-pub opens_allowed : (e : Engine) (n m : ℕ) (h : Head) → number (opening e n m h) ≡ 0 → QuestionsLaws.Allowed n m h
-opens_allowed Scan n m h z = QuestionsLaws.allowed n m h (opened_passed _ n m h z)
-opens_allowed Tree n m h z = as_allowed (TreeCallsLaws.allowed n m h (opened_passed _ n m h z))
-opens_allowed Thermometer n m h z = QuestionsLaws.allowed n m h (opened_passed _ n m h z)
-opens_allowed KoggeStone n m h z = QuestionsLaws.allowed n m h (opened_passed _ n m h z)
+pub opens_allowed : (e : Engine) (s : State) → number (opening e s.width s.picks s.head) ≡ 0 → QuestionsLaws.Allowed s
+opens_allowed Scan s z = QuestionsLaws.allowed s (opened_passed _ s z)
+opens_allowed Tree s z = as_allowed (TreeCallsLaws.allowed s (opened_passed _ s z))
+opens_allowed Thermometer s z = QuestionsLaws.allowed s (opened_passed _ s z)
+opens_allowed KoggeStone s z = QuestionsLaws.allowed s (opened_passed _ s z)

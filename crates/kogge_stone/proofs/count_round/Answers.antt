@@ -6,7 +6,7 @@ use lib.ListN.{length-take}
 use lib.Seq.{drop-length}
 use borrow.Rule.Slice.PartMut.{put_mid}
 use Rattle.rules.proofs.KoggeStone.Laws as KoggeStoneLaws
-use Rattle.arbiter.specs.Trace.{trace, end, computes, runs, leaves}
+use Rattle.tracer.specs.Trace.{trace, end, computes, runs, leaves}
 use Rattle.kogge_stone.proofs.count_round.Code as code
 use Rattle.kogge_stone.proofs.count_round.Goals as goal
 

@@ -1,7 +1,7 @@
 -- `grant` takes no loop.
 -- Assumes nothing.
 use Rattle.std.specs.Prelude.{◌≡◌, refl}
-use Rattle.arbiter.specs.Trace.{trace, end, computes, runs, leaves}
+use Rattle.tracer.specs.Trace.{trace, end, computes, runs, leaves}
 use Rattle.kogge_stone.proofs.grant.Code as code
 
 -- Read off the code: two comparisons and an and

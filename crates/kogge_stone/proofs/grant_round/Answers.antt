@@ -5,7 +5,7 @@ use mathlib.Core.Path.{◌≡◌, refl}
 use native.Mathlib.Omega.{arith}
 use lib.ListN.{length}
 use Rattle.kogge_stone.proofs.Grants as Grants
-use Rattle.arbiter.specs.Trace.{trace, end, runs, leaves}
+use Rattle.tracer.specs.Trace.{trace, end, runs, leaves}
 use Rattle.kogge_stone.proofs.grant_round.Code as code
 use Rattle.kogge_stone.proofs.grant_round.Goals as goal
 

@@ -2,7 +2,7 @@
 -- Assumes nothing.
 use Rattle.std.proofs.Common.{◌≡◌, refl, sym, ◌∙◌, arith, ext_get_or}
 use Rattle.kogge_stone.proofs.Grants as Grants
-use Rattle.arbiter.specs.Trace.{trace, end, computes, runs, leaves, either, repeats}
+use Rattle.tracer.specs.Trace.{trace, end, computes, runs, leaves, either, repeats}
 use Rattle.kogge_stone.proofs.grant_run.Code as code
 use Rattle.kogge_stone.proofs.grant_run.Goals as goal
 

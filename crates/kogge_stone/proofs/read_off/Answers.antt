@@ -4,7 +4,7 @@ use Rattle.std.proofs.Common.{rules, ◌≡◌, [], ◌∷◌, Some, length, get
 use Rattle.rules.specs.Lists.{before}
 use Rattle.kogge_stone.specs.Steps.{station}
 use Rattle.kogge_stone.proofs.Counts as Counts
-use Rattle.arbiter.specs.Trace.{named, trace, end, computes, calls, runs, leaves, either}
+use Rattle.tracer.specs.Trace.{named, trace, end, computes, calls, runs, leaves, either}
 use Rattle.kogge_stone.proofs.read_off.Code as code
 use Rattle.kogge_stone.proofs.read_off.Goals as goal
 

@@ -1,6 +1,6 @@
 -- Laws of the one-hot image, and of question 10.
 -- Promises `image_length`, `image_bits`, `image_head`, `image_single`, `image_of`, `one_hot_none`, `one_hot_single`,
--- `one_hot_second`, `one_below` and `read_answered`. The rest are steps of their proofs.
+-- `one_hot_second`, `one_below`, `read_served` and `read_refused`. The rest are steps of their proofs.
 -- Assumes nothing.
 use Rattle.std.specs.Prelude.{ℕ, suc, ◌+◌, ◌-◌, ◌<◌, ◌≡◌, refl, Bool, true, false, List, [], ◌∷◌, eqb, ltb, length, get_or, drop, replicate}
 use Rattle.std.proofs.Common.{sym, ap, ◌∙◌, arith, add-one, length-set, get_or-set_same, get_or-set_other, ext_get_or, eqb-true, ltb-false, eq-eqb, ne_eqb}
@@ -13,14 +13,14 @@ use Rattle.rules.specs.Lists.{bit, range, member}
 use Rattle.rules.specs.Lists.Laws as ListsLaws
 use Rattle.rules.specs.RoundRobin.{start}
 use Rattle.rules.proofs.RoundRobin.Laws.{start_at}
-use Rattle.arbiter.specs.Places.{places, ones, first}
-use Rattle.arbiter.specs.Places.Laws.{Free, places_none, places_first, free_of, first_none, first_some, found}
+use Rattle.search.specs.Places.{places, ones, first}
+use Rattle.search.specs.Places.Laws.{Free, places_none, places_first, free_of, first_none, first_some, found}
 use Rattle.arbiter.specs.declared.refusal.Refusal.TheVariants.{SecondOne}
 use Rattle.arbiter.specs.declared.State.{State}
-use Rattle.arbiter.specs.Answers.{moved, served, refused, answered, if_passed}
-use Rattle.arbiter.specs.Decisions.{headed}
-use Rattle.arbiter.specs.Questions.{Verdict, passed, ◌then◌, refuse_at_first, one_hot}
-use Rattle.one_hot.specs.Calls.{image, head_of, questions, read}
+use Rattle.arbiter.specs.declared.refusal.Refusal.{Refusal}
+use Rattle.arbiter.specs.Answers.{moved, served, refused, if_passed}
+use Rattle.arbiter.specs.Questions.{Verdict, passed, ◌then◌, refuse_at_first}
+use Rattle.one_hot.specs.Calls.{image, head_of, one_hot, questions, read}
 
 -- the head is at i
 here : Head → ℕ → Bool
@@ -141,11 +141,20 @@ one_hot_second image i k e some = one_hot_rest image i e ∙ rw (first_some _ k 
 pub one_below : (image : List ℕ) (i : ℕ) → first (ones 0 image) ≡ Some i → i < length image
 one_below image i e = (found (λ b. eqb b 1) 0 i image e).high
 
--- reading an image is a call that decides the head that it shows where its questions pass
-pub read_answered : (s : State) (bytes : List ℕ)
-    → answered s (questions s.width s.picks s.head bytes then Ok (headed (head_of bytes))) ≡ read s bytes
-read_answered s bytes = by (questions s.width s.picks s.head bytes)
-  where
-    by : (v : Verdict) → answered s (v then Ok (headed (head_of bytes))) ≡ if_passed v (served (moved s (head_of bytes))) (λ refusal. refused refusal s)
-    by (Ok _) = refl
-    by (Err refusal) = refl
+-- reading an image by what its questions say: served it takes the head that the image shows, and refused it changes nothing
+module _ (s : State) (bytes : List ℕ) where
+  pub read_served : (h : Head) → (questions s bytes then Ok (head_of bytes)) ≡ Ok h → read s bytes ≡ served (moved s h)
+  read_served h e = by (questions s bytes) e
+    where
+      by : (v : Verdict) → (v then Ok (head_of bytes)) ≡ Ok h
+          → if_passed v (served (moved s (head_of bytes))) (λ refusal. refused refusal s) ≡ served (moved s h)
+      by (Ok _) e = let same : head_of bytes ≡ h = cc in rw same
+      by (Err r) e = let no : ⊥ = cc in absurd no
+
+  pub read_refused : (refusal : Refusal) → (questions s bytes then Ok (head_of bytes)) ≡ Err refusal → read s bytes ≡ refused refusal s
+  read_refused refusal e = by (questions s bytes) e
+    where
+      by : (v : Verdict) → (v then Ok (head_of bytes)) ≡ Err refusal
+          → if_passed v (served (moved s (head_of bytes))) (λ refusal. refused refusal s) ≡ refused refusal s
+      by (Ok _) e = let no : ⊥ = cc in absurd no
+      by (Err r) e = let same : r ≡ refusal = cc in rw same

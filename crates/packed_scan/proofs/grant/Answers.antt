@@ -1,11 +1,12 @@
 -- `grant` meets its contract: the station that it grants has a byte.
 -- Assumes nothing.
 use Rattle.std.proofs.Common.{ℕ, ◌≡◌, refl, sym, ap, ◌∙◌, [], ◌∷◌, ◌++◌, arith}
-use Rattle.arbiter.specs.Places.{first, set_lines}
-use Rattle.arbiter.specs.Places.Laws.{zeros_fit}
+use Rattle.search.specs.Places.{first}
+use Rattle.search.specs.Places.Laws.{zeros_fit}
+use Rattle.packed_scan.specs.Lines.{set_lines}
 use Rattle.packed_scan.specs.Lines.Laws.{one_below, one_decides}
 use mir.Syntax.{Opd}
-use Rattle.arbiter.specs.Trace.{named, trace, end, computes, calls, runs, leaves, chooses, case}
+use Rattle.tracer.specs.Trace.{named, trace, end, computes, calls, runs, leaves, chooses, case}
 use Rattle.packed_scan.proofs.grant.Code as code
 use Rattle.packed_scan.proofs.grant.Goals as goal
 

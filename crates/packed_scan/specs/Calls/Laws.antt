@@ -4,31 +4,31 @@
 use Rattle.std.specs.Prelude.{ℕ, ◌/◌, ◌<◌, ◌≡◌, List, map, length}
 use Rattle.std.proofs.Common.{sym, ap, ◌∙◌, arith}
 use Rattle.std.proofs.lemmas.List.{length-map}
-use Rattle.rules.specs.Head.{Head}
 use Rattle.std.specs.Prelude.{None, Some, Err}
 use Rattle.rules.specs.Lists.Laws as ListsLaws
 use Rattle.rules.specs.Packing.{packed_length}
+use Rattle.arbiter.specs.declared.State.{State}
 use Rattle.arbiter.specs.declared.refusal.Refusal.TheVariants.{UnusedBit}
-use Rattle.arbiter.specs.Places.{first, set_lines}
-use Rattle.arbiter.specs.Places.Laws.{first_none, first_some}
+use Rattle.search.specs.Places.{first}
+use Rattle.search.specs.Places.Laws.{first_none, first_some}
 use Rattle.arbiter.specs.Questions as Questions
 use Rattle.arbiter.specs.Questions.{passed, refuse_at_first, ◌then◌}
 use Rattle.arbiter.specs.Questions.Laws.{then_served, width_served, one_pick_served, head_served, length_served, first_served, Allowed}
-use Rattle.packed_scan.specs.Calls.{state_questions, questions}
-use Rattle.packed_scan.specs.Lines.{Packed, in_byte}
+use Rattle.packed_scan.specs.Calls.{unused_bits, state_questions, questions}
+use Rattle.packed_scan.specs.Lines.{set_lines, Packed, in_byte}
 use Rattle.packed_scan.specs.Lines.Laws.{in_some, in_place}
 
 -- what is known once 1, 3 and 4 have passed: all that the plain scan asks of a state, and one pick
-pub record OnePick (n m : ℕ) (h : Head) : Type 0 where
-  pub allows : Allowed n m h
-  pub one : m ≡ 1
+pub record OnePick (s : State) : Type 0 where
+  pub allows : Allowed s
+  pub one : s.picks ≡ 1
 
-pub one_pick_lem : (n m : ℕ) (h : Head) → state_questions n m h ≡ passed → OnePick n m h
-one_pick_lem n m h z =
-    let b = then_served (Questions.width n then Questions.one_pick m) (Questions.head n h) z in
-    let a = then_served (Questions.width n) (Questions.one_pick m) b.0 in
-    let w = width_served n a.0 in
-    let one : m ≡ 1 = one_pick_served m a.1 in
+pub one_pick_lem : (s : State) → state_questions s ≡ passed → OnePick s
+one_pick_lem s z =
+    let b = then_served (Questions.width s.width then Questions.one_pick s.picks) (Questions.head s.width s.head) z in
+    let a = then_served (Questions.width s.width) (Questions.one_pick s.picks) b.0 in
+    let w = width_served s.width a.0 in
+    let one : s.picks ≡ 1 = one_pick_served s.picks a.1 in
     record {
       allows = record {
         some = w.0;
@@ -36,54 +36,56 @@ one_pick_lem n m h z =
         picked = omega arith;
         few = omega arith;
         fit = omega (arith, w.0);
-        station = head_served n h w.0 b.1;
+        station = head_served s.width s.head w.0 b.1;
       };
       one = one;
     }
 
 -- and once 5 and 6 have too
-pub record Sized (n m : ℕ) (h : Head) (asked size : ℕ) : Type 0 where
-  pub state : OnePick n m h
-  pub long : asked ≡ packed_length n
-  pub room : size ≡ packed_length n
+pub record Sized (s : State) (asked size : ℕ) : Type 0 where
+  pub state : OnePick s
+  pub long : asked ≡ packed_length s.width
+  pub room : size ≡ packed_length s.width
 
-pub sized : (n m : ℕ) (h : Head) (asked size : ℕ)
-    → (state_questions n m h then Questions.read_length (packed_length n) asked then Questions.write_length (packed_length n) size) ≡ passed
-    → Sized n m h asked size
-sized n m h asked size z =
-    let five = state_questions n m h then Questions.read_length (packed_length n) asked in
-    let b = then_served five (Questions.write_length (packed_length n) size) z in
-    let a = then_served (state_questions n m h) (Questions.read_length (packed_length n) asked) b.0 in
+pub sized : (s : State) (asked size : ℕ)
+    → (state_questions s then Questions.read_length (packed_length s.width) asked then Questions.write_length (packed_length s.width) size) ≡ passed
+    → Sized s asked size
+sized s asked size z =
+    let stated = packed_length s.width in
+    let five = state_questions s then Questions.read_length stated asked in
+    let b = then_served five (Questions.write_length stated size) z in
+    let a = then_served (state_questions s) (Questions.read_length stated asked) b.0 in
     record {
-      state = one_pick_lem n m h a.0;
-      long = length_served _ (packed_length n) asked a.1;
-      room = length_served _ (packed_length n) size b.1;
+      state = one_pick_lem s a.0;
+      long = length_served _ stated asked a.1;
+      room = length_served _ stated size b.1;
     }
 
 -- 14 by the first line that is set and no station's, if there is one
-pub unused_none : (n : ℕ) (packed : List ℕ) → first (set_lines n packed) ≡ None → Questions.unused_bits n packed ≡ passed
+pub unused_none : (n : ℕ) (packed : List ℕ) → first (set_lines n packed) ≡ None → unused_bits n packed ≡ passed
 unused_none n packed e = ap (λ (ls : List ℕ). refuse_at_first UnusedBit (map (λ i. i / 8) ls)) (first_none (set_lines n packed) e)
 
 pub unused_at : (n : ℕ) (packed : List ℕ) (i k : ℕ) → first (set_lines n packed) ≡ Some i → i / 8 ≡ k
-    → Questions.unused_bits n packed ≡ Err (UnusedBit k)
+    → unused_bits n packed ≡ Err (UnusedBit k)
 unused_at n packed i k e place = rw (← place) (ap (λ (ls : List ℕ). refuse_at_first UnusedBit (map (λ i. i / 8) ls)) (first_some (set_lines n packed) i e).1)
 
 -- which is in the byte that has station n's line, if that byte is there
 pub unused_in : (n : ℕ) (packed : List ℕ) (w : ℕ) → n / 8 < length packed → in_byte n packed ≡ Some w
-    → Questions.unused_bits n packed ≡ Err (UnusedBit (n / 8))
+    → unused_bits n packed ≡ Err (UnusedBit (n / 8))
 unused_in n packed w within e = unused_at n packed w (n / 8) (sym (in_some packed n w within e)) (in_place packed n w e)
 
 -- and 14
-pub record Ready (n m : ℕ) (h : Head) (requests : List ℕ) (size : ℕ) : Type 0 where
-  pub state : OnePick n m h
-  pub packed : Packed n requests
-  pub room : size ≡ packed_length n
+pub record Ready (s : State) (requests : List ℕ) (size : ℕ) : Type 0 where
+  pub state : OnePick s
+  pub packed : Packed s.width requests
+  pub room : size ≡ packed_length s.width
 
-pub ready : (n m : ℕ) (h : Head) (requests : List ℕ) (size : ℕ) → questions n m h requests size ≡ passed → Ready n m h requests size
-ready n m h requests size z =
-    let unread = state_questions n m h then Questions.read_length (packed_length n) (length requests) then Questions.write_length (packed_length n) size in
-    let c = then_served unread (Questions.unused_bits n requests) z in
-    let l = sized n m h (length requests) size c.0 in
+pub ready : (s : State) (requests : List ℕ) (size : ℕ) → questions s requests size ≡ passed → Ready s requests size
+ready s requests size z =
+    let n = s.width in
+    let unread = state_questions s then Questions.read_length (packed_length n) (length requests) then Questions.write_length (packed_length n) size in
+    let c = then_served unread (unused_bits n requests) z in
+    let l = sized s (length requests) size c.0 in
     let none = first_served _ (map (λ i. i / 8) (set_lines n requests)) c.1 in
     record {
       state = l.state;

@@ -22,12 +22,12 @@ use Rattle.rules.specs.Packing.{line, wire, unpack, packed_length, pack, first_l
 use Rattle.rules.proofs.Packing.Laws as PackingLaws
 use Rattle.rules.specs.RoundRobin.{start, granted, grants}
 use Rattle.rules.proofs.RoundRobin.Laws as RoundRobinLaws
-use Rattle.arbiter.specs.Places.{ones, nonzero, set_lines, first, highest}
-use Rattle.arbiter.specs.Places.Laws.{first_none, Free, free_none, free_on, free_of, places_none, places_first, Found, found, is_zero, highest_most}
+use Rattle.search.specs.Places.{ones, nonzero, first, highest}
+use Rattle.search.specs.Places.Laws.{first_none, Free, free_none, free_on, free_of, places_none, places_first, Found, found, is_zero, highest_most}
 use Rattle.arbiter.specs.Decisions.{requested, decision, deciding, counted}
 use Rattle.arbiter.specs.Decisions.Laws.{counted_one, decided_granted, decided_none}
 use Rattle.arbiter.specs.Decisions.OnePick as OnePick
-use Rattle.packed_scan.specs.Lines.{Packed, listed, through, in_byte}
+use Rattle.packed_scan.specs.Lines.{set_lines, Packed, listed, through, in_byte}
 
 -- a line is set
 abbrev is_set : ℕ → Bool

@@ -7,7 +7,7 @@ use Rattle.rules.proofs.Walk.Laws as WalkLaws
 use Rattle.scan.proofs.Searches as Searches
 use Rattle.std.specs.Prelude.{refl, [], ◌∷◌}
 use mir.Syntax.{Opd}
-use Rattle.arbiter.specs.Trace.{trace, end, computes, runs, leaves, either, chooses, case, repeats}
+use Rattle.tracer.specs.Trace.{trace, end, computes, runs, leaves, either, chooses, case, repeats}
 use Rattle.scan.proofs.walk_run.Code as code
 use Rattle.scan.proofs.walk_run.Goals as goal
 
@@ -17,7 +17,7 @@ one_search : (on : Opd)
     ≡ repeats
     (computes
     (either end (leaves end)
-    (runs "arbiter::search::first_one"
+    (runs "search::first_one"
     (chooses on (case (1 ∷ []) end (case (0 ∷ []) (leaves end) end)) (computes (computes (computes (computes end))))))))
     (leaves end))
 one_search = (_, refl)

@@ -1,6 +1,7 @@
 -- `readable` meets its contract: question 5, then those about the last byte and about what the snapshot says.
 -- Assumes nothing.
 use Rattle.std.proofs.Common.{ap, ◌≡◌, ◌∙◌, sym, arith, ◌-◌, length, Ok, Err, rules}
+use Rattle.arbiter.specs.declared.refusal.Buffer.TheVariants.{Snapshot}
 use Rattle.arbiter.specs.Questions as Questions
 use Rattle.arbiter.specs.Questions.{◌then◌}
 use Rattle.snapshot.specs.Calls.{questions, fields, allowed, state}
@@ -10,7 +11,7 @@ use Rattle.snapshot.proofs.readable.Goals.{In_ok-fields}
 
 -- what is still asked once 5 has passed
 rest : (c : In_ok-fields) → let bytes = c.args.snapshot.now in let f = c.in_ok-fields.fields in
-    (questions bytes then Ok (state (fields bytes))) ≡ (Questions.bits (length bytes - 1) bytes then allowed f then Ok (state f))
+    (questions bytes then Ok (state (fields bytes))) ≡ (Questions.bits Snapshot (length bytes - 1) bytes then allowed f then Ok (state f))
 rest c =
     asked_rest state c.args.snapshot.now c.in_ok-fields.fields (omega (arith, c.type_inv.snapshot 0)) (sym c.held.ensures ∙ c.in_ok-fields.was)
 

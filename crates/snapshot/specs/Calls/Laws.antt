@@ -10,14 +10,15 @@ use Rattle.rules.specs.Lists.Laws as ListsLaws
 use Rattle.rules.specs.RoundRobin.{start}
 use Rattle.rules.proofs.RoundRobin.Laws.{start_none, start_at}
 use Rattle.arbiter.specs.declared.State.{State}
+use Rattle.arbiter.specs.declared.refusal.Buffer.TheVariants.{Snapshot}
 use Rattle.arbiter.specs.declared.refusal.Refusal.{Refusal}
 use Rattle.arbiter.specs.Questions as Questions
 use Rattle.arbiter.specs.Questions.{Verdict, passed, ◌then◌}
 use Rattle.arbiter.specs.Questions.Laws.{then_served, unless_served, width_passes}
-use Rattle.arbiter.specs.Words.{number}
-use Rattle.arbiter.specs.Answers.{made, served, refused, nothing}
+use Rattle.search.specs.Words.{number}
+use Rattle.arbiter.specs.Answers.{served, refused, nothing}
 use Rattle.snapshot.specs.declared.Fields.{Fields}
-use Rattle.snapshot.specs.Calls.{size, short_size, mark, head_bytes, saved, long_fields, short_fields, fields, marked, read_length, no_stray, allowed, long_questions, short_questions, questions, read}
+use Rattle.snapshot.specs.Calls.{size, short_size, mark, head_bytes, saved, long_fields, short_fields, fields, marked, read_length, no_stray, allowed, state, long_questions, short_questions, questions, read}
 
 -- six bytes that are all set
 pub six_set : (a b c d f g : ℕ) (l : List ℕ) → length l ≡ size
@@ -83,7 +84,7 @@ width_asked n b c d l u = rw (width_passes n l u)
 
 -- the questions after 5, in the order in which they are asked of either form
 pub asked : (bytes : List ℕ) → get_or bytes 0 0 < 256 → read_length (length bytes) ≡ passed
-    → (Questions.bits (length bytes - 1) bytes then allowed (fields bytes))
+    → (Questions.bits Snapshot (length bytes - 1) bytes then allowed (fields bytes))
     ≡ cond (eqb (length bytes) short_size) (short_questions bytes) (long_questions bytes)
 asked bytes byte z =
     ListsLaws.split (eqb (length bytes) short_size)
@@ -92,7 +93,7 @@ asked bytes byte z =
     let last : length bytes - 1 ≡ 3 = omega arith in
     let f = short_fields bytes in
     rw (t, last, fields_short bytes e)
-    (ap (λ (v : Verdict). Questions.bits 3 bytes then v)
+    (ap (λ (v : Verdict). Questions.bits Snapshot 3 bytes then v)
     (width_asked f.width (Questions.picks f.width f.picks) (Questions.head f.width (marked f.station f.mark)) (no_stray f)
     (omega (arith, short_width bytes)) (omega (arith, short_width bytes)))))
     (λ n.
@@ -102,13 +103,13 @@ asked bytes byte z =
 
 -- and the whole of the questions, once 5 has passed
 asked_whole : (bytes : List ℕ) → get_or bytes 0 0 < 256 → read_length (length bytes) ≡ passed
-    → questions bytes ≡ (Questions.bits (length bytes - 1) bytes then allowed (fields bytes))
+    → questions bytes ≡ (Questions.bits Snapshot (length bytes - 1) bytes then allowed (fields bytes))
 asked_whole bytes byte z = rw z (sym (asked bytes byte z))
 
 -- the questions once 5 has passed, of a snapshot that says f, and what is made of what it says
 pub asked_rest : {A : Type 0} (make : Fields → A) (bytes : List ℕ) (f : Fields) → get_or bytes 0 0 < 256
     → (read_length (length bytes) then Ok (fields bytes)) ≡ Ok f
-    → (questions bytes then Ok (make (fields bytes))) ≡ (Questions.bits (length bytes - 1) bytes then allowed f then Ok (make f))
+    → (questions bytes then Ok (make (fields bytes))) ≡ (Questions.bits Snapshot (length bytes - 1) bytes then allowed f then Ok (make f))
 asked_rest make bytes f byte e =
     let five = then_served (read_length (length bytes)) (Ok (fields bytes)) e in
     let same : fields bytes ≡ f = cc in
@@ -116,7 +117,7 @@ asked_rest make bytes f byte e =
 
 -- reading answers by what the questions say
 pub read_passed : (bytes : List ℕ) (f : Fields) → (questions bytes then Ok (fields bytes)) ≡ Ok f
-    → read bytes ≡ served (made f.width f.picks (marked f.station f.mark))
+    → read bytes ≡ served (state f)
 read_passed bytes f e =
     let both = then_served (questions bytes) (Ok (fields bytes)) e in
     let same : fields bytes ≡ f = cc in

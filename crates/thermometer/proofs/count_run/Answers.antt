@@ -18,7 +18,7 @@ use lib.Count.{ones}
 use lib.Bits.{bit_or}
 use Rattle.rules.proofs.Walk.Laws as WalkLaws
 use Rattle.thermometer.proofs.Runs.Laws.{code_first, code_next, to_codes}
-use Rattle.arbiter.specs.Trace.{trace, end, computes, runs, leaves, either, repeats}
+use Rattle.tracer.specs.Trace.{trace, end, computes, runs, leaves, either, repeats}
 use Rattle.thermometer.proofs.Steps as WalkSteps
 use Rattle.thermometer.proofs.count_run.Code as code
 use Rattle.thermometer.proofs.count_run.Goals as goal

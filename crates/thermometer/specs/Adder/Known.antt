@@ -1,12 +1,13 @@
 -- Some sums by computing. Codes are written in binary here.
 -- Assumes nothing.
-use Rattle.std.specs.Prelude.{ℕ, ◌≡◌, refl, Bool, true, false, Result}
+use Rattle.std.specs.Prelude.{ℕ, ◌≡◌, refl, Bool, true, false, [], ◌∷◌, Result}
 use Rattle.std.specs.Int.Count.{ones}
 use Rattle.rules.specs.Thermometer.{code, is_code, add, cuts}
 use Rattle.arbiter.specs.declared.refusal.Refusal.{Refusal}
 use Rattle.arbiter.specs.Answers.{number_of, place_of}
 use Rattle.thermometer.specs.declared.adder.Sum.{Sum}
-use Rattle.thermometer.specs.Adder.{sum, code_of, cut_of}
+use Rattle.arbiter.specs.Questions.Known.{numbers}
+use Rattle.thermometer.specs.Adder.{pick_count, codes, sum, code_of, cut_of}
 
 -- what the adder's answer says: a number, a place, a code, and whether it cut anything off
 pub record Said : Type 0 where
@@ -19,6 +20,9 @@ abbrev pub said : Result Sum Refusal → Said
 said answer = record { number = number_of answer; place = place_of answer; code = code_of answer; cut = cut_of answer }
 
 pub record KnownSums : Type 0 where
+  pub pick_counts : numbers (pick_count 0 ∷ pick_count 9 ∷ pick_count 8 ∷ pick_count 1 ∷ []) ≡ 3 ∷ 3 ∷ 0 ∷ 0 ∷ []
+  -- 10 is no code, and 111 has too many ones for 2
+  pub some_codes : numbers (codes 2 2 1 ∷ codes 2 1 2 ∷ codes 2 7 1 ∷ codes 2 1 1 ∷ codes 2 3 0 ∷ []) ≡ 13 ∷ 13 ∷ 13 ∷ 0 ∷ 0 ∷ []
   -- with 2 picks: 01 and 01 give 11
   pub exact : said (sum 2 1 1) ≡ record { number = 0; place = 0; code = 3; cut = false }
   -- 11 and 01 give 11 too, and add up to more
@@ -30,4 +34,4 @@ pub record KnownSums : Type 0 where
 
 pub known : KnownSums
 unfolding code is_code add cuts ones
-known = record { exact = refl; cut_off = refl; no_code = refl; nine_picks = refl }
+known = record { pick_counts = refl; some_codes = refl; exact = refl; cut_off = refl; no_code = refl; nine_picks = refl }

@@ -16,17 +16,20 @@ use Rattle.rules.proofs.Bus.Laws as BusLaws
 use Rattle.text.specs.Characters.{line_feed, space, decimal, bit, bits}
 use Rattle.text.specs.Characters.Laws.{decimal_few}
 use Rattle.arbiter.specs.declared.Answer.{Answer}
+use Rattle.arbiter.specs.declared.Granted.{Granted}
 use Rattle.arbiter.specs.declared.State.{State}
 use Rattle.arbiter.specs.declared.refusal.Refusal.{Refusal}
-use Rattle.arbiter.specs.declared.refusal.Refusal.TheVariants.{Width, TreeWidth, Picks, HeadRange, ReadLength, WriteLength, NodesLength, NotABit, Acknowledge, SecondOne, FirstLine, InputLength, Code, UnusedBit, WaitingLength, Overflow}
+use Rattle.arbiter.specs.declared.refusal.Buffer.TheVariants.{Requests}
+use Rattle.arbiter.specs.declared.refusal.Refusal.TheVariants.{Width, TreeWidth, Picks, HeadRange, ReadLength, WriteLength, NodesLength, NotABit, Acknowledge}
 use Rattle.arbiter.specs.Refusals as Refusals
-use Rattle.arbiter.specs.Places.{places, first}
-use Rattle.arbiter.specs.Places.Laws.{found}
+use Rattle.arbiter.specs.Refusals.Laws.{numbered}
+use Rattle.search.specs.Places.{places, first}
+use Rattle.search.specs.Places.Laws.{found}
 use Rattle.arbiter.specs.Questions as Questions
 use Rattle.arbiter.specs.Questions.{Verdict, passed, ◌then◌, refuse_unless, refuse_at_first}
 use Rattle.arbiter.specs.Questions.Laws as QuestionsLaws
 use Rattle.arbiter.specs.Answers as Answers
-use Rattle.arbiter.specs.Answers.{Effect, number_of, place_of, number, place, if_passed, writes}
+use Rattle.arbiter.specs.Answers.{Effect, made, number_of, place_of, number, place, if_passed, writes}
 use Rattle.arbiter.specs.Answers.Laws.{refusal_number}
 use Rattle.arbiter.specs.Cycle as RoundRobinCalls
 use Rattle.tree.specs.Calls as TreeCalls
@@ -41,22 +44,7 @@ use Rattle.transcript.specs.Cycles.{opening, well_formed, wire, called, cycle, r
 
 -- the number of a refusal has two digits at most
 pub number_few : (refusal : Refusal) → Refusals.number refusal < 100
-number_few Width = omega arith
-number_few TreeWidth = omega arith
-number_few Picks = omega arith
-number_few HeadRange = omega arith
-number_few ReadLength = omega arith
-number_few WriteLength = omega arith
-number_few NodesLength = omega arith
-number_few (NotABit p) = omega arith
-number_few Acknowledge = omega arith
-number_few (SecondOne p) = omega arith
-number_few FirstLine = omega arith
-number_few InputLength = omega arith
-number_few Code = omega arith
-number_few (UnusedBit p) = omega arith
-number_few WaitingLength = omega arith
-number_few (Overflow p) = omega arith
+number_few refusal = omega (arith, (numbered refusal).1)
 
 -- a verdict whose place is within bounds
 record Small (most : ℕ) (v : Verdict) : Type 0 where
@@ -81,7 +69,7 @@ module _ {most : ℕ} where
   head_small n None = record { place = omega arith }
   head_small n (Some h) = unless_small (ltb h n) HeadRange refl
 
-  token_small : (n : ℕ) (h : Head) → Small most (Questions.token n h)
+  token_small : (n : ℕ) (h : Head) → Small most (BusCalls.token_question n h)
   token_small n None = record { place = omega arith }
   token_small n (Some t) = unless_small (ltb t n) HeadRange refl
 
@@ -91,37 +79,40 @@ module _ {most : ℕ} where
   length_small stated length refusal e = unless_small (eqb length stated) refusal e
 
   -- 1, 3 and 4 of each kind
-  state_small : (n m : ℕ) (h : Head) → Small most (Questions.state_questions n m h)
-  state_small n m h =
-      then_small _ _ (then_small _ _ (width_small n) (unless_small ((leb 1 m && leb m Questions.max_picks) && leb m n) Picks refl)) (head_small n h)
+  state_small : (s : State) → Small most (Questions.state_questions s)
+  state_small s =
+      let n = s.width in
+      let m = s.picks in
+      then_small _ _ (then_small _ _ (width_small n) (unless_small ((leb 1 m && leb m Questions.max_picks) && leb m n) Picks refl)) (head_small n s.head)
 
-  tree_state_small : (n m : ℕ) (h : Head) → Small most (TreeCalls.state_questions n m h)
-  tree_state_small n m h =
+  tree_state_small : (s : State) → Small most (TreeCalls.state_questions s)
+  tree_state_small s =
+      let n = s.width in
       then_small _ _
-      (then_small _ _ (then_small _ _ (width_small n) (unless_small (member n (map (λ k. 2 ^ k) (range 1 n))) TreeWidth refl)) (one_pick_small m))
-      (head_small n h)
+      (then_small _ _ (then_small _ _ (width_small n) (unless_small (member n (map (λ k. 2 ^ k) (range 1 n))) TreeWidth refl)) (one_pick_small s.picks))
+      (head_small n s.head)
 
-  bus_state_small : (n m : ℕ) (h : Head) → Small most (BusCalls.state_questions n m h)
-  bus_state_small n m h = then_small _ _ (then_small _ _ (width_small n) (one_pick_small m)) (token_small n h)
+  bus_state_small : (s : State) → Small most (BusCalls.state_questions s)
+  bus_state_small s = then_small _ _ (then_small _ _ (width_small s.width) (one_pick_small s.picks)) (token_small s.width s.head)
 
 first_small : (refusal : ℕ → Refusal) (most : ℕ) (ps : List ℕ)
     → ((i : ℕ) → first ps ≡ Some i → Refusals.place (refusal i) ≤ most) → Small most (refuse_at_first refusal ps)
 first_small refusal most [] f = record { place = omega arith }
 first_small refusal most (p ∷ ps) f = record { place = f p refl }
 
-bits_small : (bytes : List ℕ) → Small (length bytes) (Questions.bits 0 bytes)
+bits_small : (bytes : List ℕ) → Small (length bytes) (Questions.bits Requests 0 bytes)
 bits_small bytes =
-    first_small NotABit (length bytes) (places (ltb 1) 0 bytes) (λ i e. omega (arith, (found (ltb 1) 0 i bytes e).high))
+    first_small (NotABit Requests) (length bytes) (places (ltb 1) 0 bytes) (λ i e. omega (arith, (found (ltb 1) 0 i bytes e).high))
 
 -- an outcome that can be printed: what its place and its grants are bounded by
-pub record Printable (s : State) (most : ℕ) (o : Effect) : Type 0 where
+pub record Printable (s : State) (most : ℕ) (o : Effect Granted) : Type 0 where
   pub width : o.answer.state.width ≡ s.width
   pub place : place o.answer ≤ most
   pub grants : length o.written ≡ s.width
   pub next : number o.answer ≡ 0 → start o.answer.state.head < s.width
 
 -- a call that writes: `answer` is what it answers if it is served
-writes_printable : {most : ℕ} (v : Verdict) (s : State) (answer : Answer) (target former : List ℕ) → Small most v
+writes_printable : {most : ℕ} (v : Verdict) (s : State) (answer : Answer Granted) (target former : List ℕ) → Small most v
     → place answer ≡ 0 → answer.state.width ≡ s.width → length target ≡ s.width
     → length former ≡ s.width → (v ≡ passed → start answer.state.head < s.width)
     → Printable s most (writes v s answer target former)
@@ -161,37 +152,37 @@ module _ (s : State) (requests : List ℕ) where
   scan_printable : Printable s (length requests) (RoundRobinCalls.cycle s requests (replicate s.width 0))
   scan_printable =
       let n = s.width in
-      ruled_printable (RoundRobinCalls.questions s.width s.picks s.head requests size) (then_small _ _ (state_small n s.picks s.head) cycle_small)
-      (λ z. (QuestionsLaws.ready n s.picks s.head requests size z).allows.station)
+      ruled_printable (RoundRobinCalls.questions s requests size) (then_small _ _ (state_small s) cycle_small)
+      (λ z. (QuestionsLaws.ready s requests size z).allows.station)
 
   -- the tree's cycle, as a call that writes its grants
-  tree_written : (v : Verdict) (answer : Answer) (target formerGrants tree formerNodes : List ℕ)
+  tree_written : (v : Verdict) (answer : Answer Granted) (target formerGrants tree formerNodes : List ℕ)
       → let o = if_passed {A = TreeCalls.TreeEffect} v (record { answer = answer; grants = target; nodes = tree })
       (λ e. record { answer = Answers.refused e s; grants = formerGrants; nodes = formerNodes }) in
-      ◌≡◌ {A = Effect} (record { answer = o.answer; written = o.grants }) (writes v s answer target formerGrants)
+      ◌≡◌ {A = Effect Granted} (record { answer = o.answer; written = o.grants }) (writes v s answer target formerGrants)
   tree_written (Ok _) answer target formerGrants tree formerNodes = refl
   tree_written (Err e) answer target formerGrants tree formerNodes = refl
 
   tree_writes : (grants nodes : List ℕ) → let o = TreeCalls.cycle s requests grants nodes in
       record { answer = o.answer; written = o.grants }
-      ≡ writes (TreeCalls.questions s.width s.picks s.head requests (length grants) (length nodes)) s (RoundRobinCalls.answer s requests) (RoundRobinCalls.granting s requests) grants
+      ≡ writes (TreeCalls.questions s requests (length grants) (length nodes)) s (RoundRobinCalls.answer s requests) (RoundRobinCalls.granting s requests) grants
   unfolding TreeCalls.cycle
-  tree_writes grants nodes = tree_written (TreeCalls.questions s.width s.picks s.head requests (length grants) (length nodes)) _ _ _ _ _
+  tree_writes grants nodes = tree_written (TreeCalls.questions s requests (length grants) (length nodes)) _ _ _ _ _
 
   tree_printable : (nodes : List ℕ) → let o = TreeCalls.cycle s requests (replicate s.width 0) nodes in
       Printable s (length requests) (record { answer = o.answer; written = o.grants })
   tree_printable nodes =
       let n = s.width in
       rw (tree_writes (replicate n 0) nodes)
-      (ruled_printable (TreeCalls.questions n s.picks s.head requests size (length nodes))
+      (ruled_printable (TreeCalls.questions s requests size (length nodes))
       (then_small _ _
       (then_small _ _
       (then_small _ _
-      (then_small _ _ (tree_state_small n s.picks s.head) (length_small n (length requests) ReadLength refl))
+      (then_small _ _ (tree_state_small s) (length_small n (length requests) ReadLength refl))
       (length_small n size WriteLength refl))
       (length_small (2 * n) (length nodes) NodesLength refl))
       (bits_small requests))
-      (λ z. (TreeCallsLaws.ready n s.picks s.head requests size (length nodes) z).allows.station))
+      (λ z. (TreeCallsLaws.ready s requests size (length nodes) z).allows.station))
 
   bus_printable : (byte : ℕ) → Printable s (length requests) (BusCalls.cycle s requests (replicate s.width 0) byte)
   bus_printable byte =
@@ -199,14 +190,14 @@ module _ (s : State) (requests : List ℕ) where
       let t = BusCalls.token s in
       let asks = RoundRobinCalls.asking s requests in
       let ack = BusRule.acknowledged byte in
-      writes_printable (BusCalls.questions n s.picks s.head requests size byte) s (BusCalls.answer s requests byte) (BusCalls.granting s requests) (replicate n 0)
-      (then_small _ _ (then_small _ _ (bus_state_small n s.picks s.head) cycle_small) (unless_small (leb byte 1) Acknowledge refl))
+      writes_printable (BusCalls.questions s requests size byte) s (BusCalls.answer s requests byte) (BusCalls.granting s requests) (replicate n 0)
+      (then_small _ _ (then_small _ _ (bus_state_small s) cycle_small) (unless_small (leb byte 1) Acknowledge refl))
       refl
       refl
       (ap length (BusLaws.grants_marks n t asks) ∙ ListsLaws.length_table _ 0 n)
       (length-replicate n 0)
       (λ z.
-      let station = (BusCallsLaws.ready n s.picks s.head requests size byte z).allows.station in
+      let station = (BusCallsLaws.ready s requests size byte z).allows.station in
       omega (arith, BusLaws.next_below n t ack asks station, RoundRobinLaws.start_at (BusRule.next n t ack asks)))
 
   called_printable : (e : Kind) (byte : ℕ) → Printable s (length requests) (called e s requests byte)
@@ -268,13 +259,13 @@ module _ (e : Kind) (s : State) (line : List ℕ) where
   pub cycle_place : place (cycle e s line).answer ≤ length line
   cycle_place =
       ListsLaws.split (well_formed e s.width line) (λ t. omega (arith, cycle_printable.place, formed_long e s.width line t))
-      (λ f. omega (arith, ap (λ (o : Effect). place o.answer) (cycle_refused f)))
+      (λ f. omega (arith, ap (λ (o : Effect Granted). place o.answer) (cycle_refused f)))
 
   -- a served line has a character for each station
   pub served_long : number (cycle e s line).answer ≡ 0 → s.width ≤ length line
   served_long z =
       ListsLaws.split (well_formed e s.width line) (formed_long e s.width line)
-      (λ f. absurd (refusal_number ReadLength (sym (ap (λ (o : Effect). number o.answer) (cycle_refused f)) ∙ z)))
+      (λ f. absurd (refusal_number ReadLength (sym (ap (λ (o : Effect Granted). number o.answer) (cycle_refused f)) ∙ z)))
 
 -- a refusal's line: five digits at most for the line's number, two for the refusal's, and those of the place
 refusal_long : (k number place digits : ℕ) → k < 100000 → number < 100 → place < 10 ^ suc digits → length (refusal_line k number place) ≤ 19 + digits
@@ -299,10 +290,10 @@ granted_short k grants next a b =
     omega (arith, decimal_few 4 k a, decimal_few 3 next b)
 
 -- what a cycle line prints is at most 19 times as long as the line with its line feed: a place above 0 is in a line with characters
-told_short : (k : ℕ) (r : Result ℕ Refusal) (grants : List ℕ) (next long : ℕ) → k < 100000 → length grants ≤ Questions.max_width
+told_short : (k : ℕ) (r : Result Granted Refusal) (grants : List ℕ) (next long : ℕ) → k < 100000 → length grants ≤ Questions.max_width
     → (number_of r ≡ 0 → (next < 10000) × (length grants ≤ long)) → place_of r ≤ length grants → place_of r ≤ long
     → length (told k r grants next) ≤ 19 * (1 + long)
-told_short k (Ok count) grants next long few wide served place within =
+told_short k (Ok _) grants next long few wide served place within =
     let z = served refl in omega (arith, granted_short k grants next few z.0, z.1)
 told_short k (Err refusal) grants next long few wide served place within =
     ListsLaws.split (leb (Refusals.place refusal) 0)
@@ -337,26 +328,25 @@ run_short e s k (line ∷ ls) wide few =
     omega (arith, length-append (printed k o) (run e o.answer.state (k + 1) ls))
 
 -- a refused opening names no place
-opened_nowhere : (v : Verdict) (n m : ℕ) (h : Head) → Small 0 v → place (Answers.opened v n m h) ≤ 0
-opened_nowhere (Ok _) n m h p = omega arith
-opened_nowhere (Err refusal) n m h p = p.place
+opened_nowhere : (v : Verdict) (s : State) → Small 0 v → place (Answers.opened v s) ≤ 0
+opened_nowhere (Ok _) s p = omega arith
+opened_nowhere (Err refusal) s p = p.place
 
 pub opening_nowhere : (e : Kind) (n m : ℕ) → place (opening e n m) ≤ 0
-opening_nowhere (RoundRobin Scan) n m = opened_nowhere _ n m None (state_small n m None)
-opening_nowhere (RoundRobin Tree) n m = opened_nowhere _ n m None (tree_state_small n m None)
-opening_nowhere (RoundRobin Thermometer) n m = opened_nowhere _ n m None (state_small n m None)
-opening_nowhere (RoundRobin KoggeStone) n m = opened_nowhere _ n m None (state_small n m None)
-opening_nowhere TokenBus n m = opened_nowhere _ n m (Some 0) (bus_state_small n m (Some 0))
+opening_nowhere (RoundRobin Scan) n m = opened_nowhere _ (made n m None) (state_small (made n m None))
+opening_nowhere (RoundRobin Tree) n m = opened_nowhere _ (made n m None) (tree_state_small (made n m None))
+opening_nowhere (RoundRobin Thermometer) n m = opened_nowhere _ (made n m None) (state_small (made n m None))
+opening_nowhere (RoundRobin KoggeStone) n m = opened_nowhere _ (made n m None) (state_small (made n m None))
+opening_nowhere TokenBus n m = opened_nowhere _ (made n m (Some 0)) (bus_state_small (made n m (Some 0)))
 
 -- and the width of the state that an opening makes is bounded
-opened_wide : (v : Verdict) (n m : ℕ) (h : Head) → (v ≡ passed → n ≤ Questions.max_width)
-    → (Answers.opened v n m h).state.width ≤ Questions.max_width
-opened_wide (Ok _) n m h p = p refl
-opened_wide (Err refusal) n m h p = omega arith
+opened_wide : (v : Verdict) (s : State) → (v ≡ passed → s.width ≤ Questions.max_width) → (Answers.opened v s).state.width ≤ Questions.max_width
+opened_wide (Ok _) s p = p refl
+opened_wide (Err refusal) s p = omega arith
 
 pub opening_wide : (e : Kind) (n m : ℕ) → (opening e n m).state.width ≤ Questions.max_width
-opening_wide (RoundRobin Scan) n m = opened_wide _ n m None (λ z. (QuestionsLaws.allowed n m None z).most)
-opening_wide (RoundRobin Tree) n m = opened_wide _ n m None (λ z. (TreeCallsLaws.allowed n m None z).most)
-opening_wide (RoundRobin Thermometer) n m = opened_wide _ n m None (λ z. (QuestionsLaws.allowed n m None z).most)
-opening_wide (RoundRobin KoggeStone) n m = opened_wide _ n m None (λ z. (QuestionsLaws.allowed n m None z).most)
-opening_wide TokenBus n m = opened_wide _ n m (Some 0) (λ z. (BusCallsLaws.allowed n m (Some 0) z).most)
+opening_wide (RoundRobin Scan) n m = opened_wide _ (made n m None) (λ z. (QuestionsLaws.allowed (made n m None) z).most)
+opening_wide (RoundRobin Tree) n m = opened_wide _ (made n m None) (λ z. (TreeCallsLaws.allowed (made n m None) z).most)
+opening_wide (RoundRobin Thermometer) n m = opened_wide _ (made n m None) (λ z. (QuestionsLaws.allowed (made n m None) z).most)
+opening_wide (RoundRobin KoggeStone) n m = opened_wide _ (made n m None) (λ z. (QuestionsLaws.allowed (made n m None) z).most)
+opening_wide TokenBus n m = opened_wide _ (made n m (Some 0)) (λ z. (BusCallsLaws.allowed (made n m (Some 0)) z).most)

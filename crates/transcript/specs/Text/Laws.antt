@@ -34,9 +34,9 @@ unfolding text
 text_follows input l = rw (le-leb (length input) max_input l)
 
 -- how long it is: what follows the heading is at most 19 times as long as the longest input
-with_short : (e : Kind) (r : Result ℕ Refusal) (s : State) (ls : List (List ℕ)) → s.width ≤ max_width → place_of r ≤ 0
+with_short : (e : Kind) (r : Result (Unit {0}) Refusal) (s : State) (ls : List (List ℕ)) → s.width ≤ max_width → place_of r ≤ 0
     → total_length ls ≤ max_input → length (after_opening e r s ls) ≤ 19 * max_input
-with_short e (Ok count) s ls wide nowhere l = omega (arith, run_short e s 1 ls wide (omega (arith, lines_few ls)))
+with_short e (Ok _) s ls wide nowhere l = omega (arith, run_short e s 1 ls wide (omega (arith, lines_few ls)))
 with_short e (Err refusal) s ls wide nowhere l =
     omega (arith, refusal_short 0 (Refusals.number refusal) (Refusals.place refusal) (omega arith) (number_few refusal) nowhere)
 

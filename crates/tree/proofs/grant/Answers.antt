@@ -4,7 +4,7 @@ use Rattle.std.proofs.Common.{arith}
 use Rattle.rules.proofs.Tree.Laws.{reached_station}
 use Rattle.std.specs.Prelude.{◌≡◌, refl, List}
 use mir.Syntax.{Symbol}
-use Rattle.arbiter.specs.Trace.{named, trace, end, computes, calls, runs, leaves, either}
+use Rattle.tracer.specs.Trace.{named, trace, end, computes, calls, runs, leaves, either}
 use Rattle.tree.proofs.grant.Code as code
 use Rattle.tree.proofs.grant.Goals as goal
 

@@ -5,7 +5,7 @@ use Rattle.std.specs.Prelude.{ℕ, ◌+◌, ◌≤◌, ◌≡◌, Bool, true, fa
 use Rattle.rules.specs.Lists.Laws as ListsLaws
 use Rattle.rules.specs.Tree as TreeRule
 use Rattle.rules.proofs.Tree.Laws as TreeLaws
-use Rattle.arbiter.specs.Places.{first}
+use Rattle.search.specs.Places.{first}
 
 module _ (n : ℕ) (t : List ℕ) where
   abbrev r : ℕ

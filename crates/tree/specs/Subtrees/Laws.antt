@@ -18,7 +18,7 @@ use Rattle.rules.specs.RoundRobin.{start, order, granted}
 use Rattle.rules.proofs.RoundRobin.Laws as RoundRobinLaws
 use Rattle.rules.specs.Tree.{s0, head_at, leaf, nodes, descend, reached, chosen}
 use Rattle.rules.proofs.Tree.Laws as TreeLaws
-use Rattle.arbiter.specs.Places.{first}
+use Rattle.search.specs.Places.{first}
 use Rattle.tree.specs.Subtrees.{subtree}
 use Rattle.tree.specs.Subtrees.Laws.Halves.{turn, value_of, reaches, turn_order}
 mod Halves

@@ -3,9 +3,8 @@
 use Rattle.std.proofs.Common.{◌≡◌, true, false, ltb, get_or, arith, rules, tests}
 use Rattle.std.proofs.lemmas.Iterator.{first_from_Range}
 use Rattle.std.proofs.lemmas.List.{get_or_read}
-use Rattle.arbiter.specs.Places.Laws.{first_place}
-use Rattle.arbiter.specs.Questions.{max_waiting}
-use Rattle.backlog.specs.Calls.{arrived}
+use Rattle.search.specs.Places.Laws.{first_place}
+use Rattle.backlog.specs.Calls.{arrived, max_waiting}
 use Rattle.backlog.specs.Calls.Laws.{arrived_length, arrived_at}
 use Rattle.backlog.proofs.question.first_over.Goals as goal
 

@@ -1,7 +1,7 @@
 -- `grant` counts by the network.
 -- Assumes nothing.
 use Rattle.std.specs.Prelude.{◌≡◌, refl}
-use Rattle.arbiter.specs.Trace.{trace, end, computes, runs, leaves, either}
+use Rattle.tracer.specs.Trace.{trace, end, computes, runs, leaves, either}
 use Rattle.kogge_stone.proofs.KoggeStoneRoundRobin.grant.Code as code
 
 -- Read off the code: a small cycle counts once and so does a large one, and nothing else is done

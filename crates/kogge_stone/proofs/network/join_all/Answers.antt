@@ -11,7 +11,7 @@ use Rattle.rules.proofs.KoggeStone.Laws as KoggeStoneLaws
 use Rattle.rules.proofs.KoggeStone.Laws.{Left}
 use Rattle.kogge_stone.specs.Steps.{Codes}
 use Rattle.kogge_stone.proofs.Codes.{joined_codes}
-use Rattle.arbiter.specs.Trace.{named, trace, end, computes, calls, runs, leaves, either, repeats}
+use Rattle.tracer.specs.Trace.{named, trace, end, computes, calls, runs, leaves, either, repeats}
 use Rattle.kogge_stone.proofs.network.join_all.Code as code
 use Rattle.kogge_stone.proofs.network.join_all.Goals as goal
 

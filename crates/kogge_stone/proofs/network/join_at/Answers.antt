@@ -9,7 +9,7 @@ use Rattle.rules.proofs.KoggeStone.Laws as KoggeStoneLaws
 use Rattle.rules.proofs.Thermometer.Laws.{code_own}
 use Rattle.rules.proofs.Thermometer.Cuts.{reach_none, reach_more, reach_passes}
 use Rattle.kogge_stone.proofs.Codes.{every_code, joins}
-use Rattle.arbiter.specs.Trace.{trace, end, computes, runs, leaves, either, repeats}
+use Rattle.tracer.specs.Trace.{trace, end, computes, runs, leaves, either, repeats}
 use Rattle.kogge_stone.proofs.network.join_at.Code as code
 use Rattle.kogge_stone.proofs.network.join_at.Goals as goal
 

@@ -3,7 +3,7 @@
 use mathlib.Core.Path.{◌≡◌, refl}
 use native.Mathlib.Omega.{arith}
 use Rattle.kogge_stone.proofs.Order as Order
-use Rattle.arbiter.specs.Trace.{trace, end, runs, leaves}
+use Rattle.tracer.specs.Trace.{trace, end, runs, leaves}
 use Rattle.kogge_stone.proofs.network.run.Code as code
 use Rattle.kogge_stone.proofs.network.run.Goals as goal
 

@@ -1,7 +1,7 @@
 -- `sum` takes no loop.
 -- Assumes nothing.
 use Rattle.std.specs.Prelude.{◌≡◌, refl}
-use Rattle.arbiter.specs.Trace.{trace, end, computes, runs, leaves}
+use Rattle.tracer.specs.Trace.{trace, end, computes, runs, leaves}
 use Rattle.kogge_stone.proofs.network.sum.Code as code
 
 -- Read off the code: a sum is a product and two sums, of the two codes widened, without a loop or a condition

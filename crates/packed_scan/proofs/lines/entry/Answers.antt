@@ -5,7 +5,7 @@ use Rattle.rules.specs.Packing.{first_line, entries}
 use Rattle.packed_scan.specs.Lines.Laws.{table_entry}
 use Rattle.std.specs.Prelude.{◌≡◌}
 use mir.Syntax.{ty_array, ty_int, w8}
-use Rattle.arbiter.specs.Trace.{trace, end, computes, runs, reads, leaves}
+use Rattle.tracer.specs.Trace.{trace, end, computes, runs, reads, leaves}
 use Rattle.packed_scan.proofs.lines.entry.Code as code
 use Rattle.packed_scan.proofs.lines.entry.Goals as goal
 

@@ -2,7 +2,7 @@
 -- Assumes nothing.
 use Rattle.std.specs.Prelude.{◌≡◌, refl}
 use mir.Syntax.{Opd}
-use Rattle.arbiter.specs.Trace.{trace, end, computes, runs, leaves, tries_option}
+use Rattle.tracer.specs.Trace.{trace, end, computes, runs, leaves, tries_option}
 use Rattle.packed_scan.proofs.lines.first_in_byte.Code as code
 
 -- Read off the code: a look into a byte asks for its first line, once

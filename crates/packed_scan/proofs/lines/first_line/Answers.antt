@@ -2,7 +2,7 @@
 -- Assumes nothing.
 use Rattle.std.specs.Prelude.{◌≡◌, refl, [], ◌∷◌}
 use mir.Syntax.{Opd}
-use Rattle.arbiter.specs.Trace.{trace, end, computes, runs, leaves, either, chooses, case}
+use Rattle.tracer.specs.Trace.{trace, end, computes, runs, leaves, either, chooses, case}
 use Rattle.packed_scan.proofs.lines.first_line.Code as code
 
 -- Read off the code: where no line from the start on is set there is none, where the start's own is, it is that; else an entry of the

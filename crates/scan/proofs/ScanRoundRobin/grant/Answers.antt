@@ -6,7 +6,7 @@ use Rattle.arbiter.specs.Decisions.{requested}
 use Rattle.arbiter.specs.Decisions.Laws as DecisionsLaws
 use Rattle.std.specs.Prelude.{◌≡◌, List}
 use mir.Syntax.{Symbol}
-use Rattle.arbiter.specs.Trace.{named, trace, end, calls, runs, leaves}
+use Rattle.tracer.specs.Trace.{named, trace, end, calls, runs, leaves}
 use Rattle.scan.proofs.ScanRoundRobin.grant.Code as code
 use Rattle.scan.proofs.ScanRoundRobin.grant.Goals as goal
 

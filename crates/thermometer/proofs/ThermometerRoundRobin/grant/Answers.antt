@@ -10,7 +10,7 @@ use Rattle.arbiter.specs.Decisions.{requested, counted}
 use Rattle.arbiter.specs.Decisions.Laws as DecisionsLaws
 use Rattle.thermometer.proofs.Runs.Laws.{hands_code, to_counts}
 use mir.Syntax.{Symbol}
-use Rattle.arbiter.specs.Trace.{named, trace, end, calls, runs, leaves}
+use Rattle.tracer.specs.Trace.{named, trace, end, calls, runs, leaves}
 use Rattle.thermometer.proofs.ThermometerRoundRobin.grant.Code as code
 use Rattle.thermometer.proofs.ThermometerRoundRobin.grant.Goals as goal
 

@@ -5,7 +5,7 @@ use mathlib.Core.Path.{◌≡◌, refl, ap₂}
 use native.Mathlib.Omega.{arith}
 use native.Mathlib.Nat.{mul-le-mul_left}
 use lib.Bits.{bit_or, and_le_r}
-use Rattle.arbiter.specs.Trace.{trace, end, computes, leaves}
+use Rattle.tracer.specs.Trace.{trace, end, computes, leaves}
 use Rattle.thermometer.proofs.Codes.{step_whole, step_adds}
 use Rattle.thermometer.proofs.adder.step.Code as code
 use Rattle.thermometer.proofs.adder.step.Goals as goal

@@ -16,7 +16,7 @@ use Rattle.rules.specs.RoundRobin.{start, order}
 use Rattle.rules.proofs.RoundRobin.Laws as RoundRobinLaws
 use Rattle.rules.specs.Tree.{value, s1, s0, head_at, leaf, join, nodes, goes_right, child, descend}
 use Rattle.rules.proofs.Tree.Laws as TreeLaws
-use Rattle.arbiter.specs.Places.{first}
+use Rattle.search.specs.Places.{first}
 use Rattle.tree.specs.Subtrees.{inside, from, some, subtree}
 
 -- those that ask of the stations from one up to another

@@ -3,5 +3,5 @@
 use Rattle.std.proofs.lemmas.List.{take-replicate}
 use Rattle.transcript.proofs.cycles.Progress.print_line.Goals as goal
 
-pub cycle-answer-requires : goal.cycle-answer-requires
-cycle-answer-requires c = take-replicate _ _ 0 c.args.self.wide
+pub advance-outcome-requires : goal.advance-outcome-requires
+advance-outcome-requires c = take-replicate _ _ 0 c.args.self.now.wide

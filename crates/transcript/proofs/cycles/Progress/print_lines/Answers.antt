@@ -20,14 +20,14 @@ next : (g : _) (c : In-Some g) → Tests g.P.FnMut (split_callee c.next.new.self
 next g c =
     left_next g.P.FnMut c.loop-line.line-iterator c.next.new.self c.next.result c.next.ensures.steps c.loop-line.invariant.0 c.in-Some.line c.in-Some.is
 
-pub print_line-run-requires : goal.print_line-run-requires
-print_line-run-requires g c =
-    omega (arith, c.loop-line.invariant.1.numbered, ap length (next g (goal.at.print_line-run-requires g c).In-Some).1)
+pub print_line-requires : goal.print_line-requires
+print_line-requires g c =
+    omega (arith, c.loop-line.invariant.1.numbered, ap length (next g (goal.at.print_line-requires g c).In-Some).1)
 
 pub loop-line-preserved : goal.loop-line-preserved
 loop-line-preserved g c =
     let k = next g (goal.at.loop-line-preserved g c).In-Some in
-    let p = c.print_line-run.ensures in
+    let p = c.print_line.ensures in
     (k.0, one_ran _ _ c.loop-line.invariant.1 k.1 p.written p.same_kind p.state_value p.number_value)
 
 pub returns : goal.returns

@@ -10,6 +10,6 @@ use Rattle.transcript.proofs.cycles.Progress.print_lines.Given as goal
 
 abbrev pub invariant-loop-line : goal.invariant-loop-line
 invariant-loop-line g l =
-    let start = l.fn.self in
+    let start = l.initial.self in
     Tests g.P.FnMut (split_callee l.line-iterator)
-    × Ran start.kind l.initial.out (Cycles.run start.kind start.state start.number (Lines.left l.fn.lines)) l.run l.out (Lines.left l.line-iterator)
+    × Ran start.kind l.initial.out (Cycles.run start.kind start.state start.number (Lines.left l.fn.lines)) l.self l.out (Lines.left l.line-iterator)

@@ -1,7 +1,7 @@
 -- The descent makes one choice at each node.
 -- Assumes nothing.
 use Rattle.std.specs.Prelude.{◌≡◌, refl}
-use Rattle.arbiter.specs.Trace.{trace, end, computes, runs, leaves, either, repeats}
+use Rattle.tracer.specs.Trace.{trace, end, computes, runs, leaves, either, repeats}
 use Rattle.tree.proofs.nodes.Nodes.reached.Code as code
 
 -- Read off the code: a step of the descent is one choice
