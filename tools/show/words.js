@@ -64,6 +64,7 @@ function unchangedWords(run, cycle) {
 const QUESTIONS = {
   5: (run) => (run.bus ? "Has the line a character for each station, a space and one character more?" : "Has the line a character for each station?"),
   8: () => "Is each station's character 0 or 1?",
+  9: () => "Is the acknowledge character 0 or 1?",
 };
 
 function refusedWords(run, bytes, refusal) {

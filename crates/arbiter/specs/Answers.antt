@@ -47,7 +47,7 @@ abbrev pub more_of : Result Granted Refusal → Bool
 more_of (Ok granted) = granted.more
 more_of (Err refusal) = false
 
--- the same of an answer, in which its state stands beside them
+-- the same of an answer, which has the state beside its outcome
 abbrev pub number : {T : Type 0} → Answer T → ℕ
 number a = number_of a.outcome
 
@@ -65,7 +65,7 @@ abbrev pub without_grants : Result (Unit {0}) Refusal → Result Granted Refusal
 without_grants (Ok _) = Ok (record { count = 0; more = false })
 without_grants (Err refusal) = Err refusal
 
--- so its answer, read as a cycle's, has count 0 and says no
+-- the answer of a call that is no cycle, as a cycle's: count 0, and no more pending
 abbrev pub no_cycle : Answer (Unit {0}) → Answer Granted
 no_cycle a = record { state = a.state; outcome = without_grants a.outcome }
 
@@ -79,7 +79,7 @@ refused refusal s = record { state = s; outcome = Err refusal }
 
 -- a served cycle given the state s: the state with the next head, and what is granted
 abbrev pub decided : State → Decision → Answer Granted
-decided s d = record { state = moved s d.next; outcome = Ok d.granted }
+decided s d = record { state = moved s d.next; outcome = Ok (record { count = d.count; more = d.more }) }
 
 -- a cycle that was given the state s
 abbrev pub answered : State → Result Decision Refusal → Answer Granted

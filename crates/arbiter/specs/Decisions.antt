@@ -16,15 +16,15 @@ requested bytes w = one_at bytes w
 -- how many are granted, the next head, and whether more are pending: some asking station is not granted
 abbrev pub decision : ℕ → ℕ → Head → (ℕ → Bool) → Decision
 decision n m h asks =
-    let gs = granted n m h asks in record { granted = record { count = length gs; more = more n asks gs }; next = next n m h asks }
+    let gs = granted n m h asks in record { count = length gs; next = next n m h asks; more = more n asks gs }
 
 -- the same told by whom the cycle grants, and whether more are pending
 abbrev pub deciding : ℕ → Head → List ℕ → Bool → Decision
-deciding n h gs pending = record { granted = record { count = length gs; more = pending }; next = after n h gs }
+deciding n h gs pending = record { count = length gs; next = after n h gs; more = pending }
 
 -- what is decided where nobody is granted and no more are pending: the head is this
 abbrev pub headed : Head → Decision
-headed h = record { granted = record { count = 0; more = false }; next = h }
+headed h = record { count = 0; next = h; more = false }
 
 -- one past station w of n, and 0 after the last
 abbrev pub past : ℕ → ℕ → ℕ
@@ -33,4 +33,4 @@ past n w = cond (ltb (w + 1) n) (w + 1) 0
 -- the same as deciding, told by how many are granted and whom the cycle grants last; where it grants no one, nobody asks
 abbrev pub counted : ℕ → Head → ℕ → Option ℕ → Bool → Decision
 counted n h c None pending = deciding n h [] false
-counted n h c (Some w) pending = record { granted = record { count = c; more = pending }; next = Some (past n w) }
+counted n h c (Some w) pending = record { count = c; next = Some (past n w); more = pending }

@@ -7,6 +7,7 @@ use Rattle.arbiter.specs.declared.refusal.Buffer.TheVariants.{Requests, Image, S
 use Rattle.arbiter.specs.declared.refusal.Refusal.{Refusal}
 use Rattle.arbiter.specs.declared.refusal.Refusal.TheVariants.{Width, TreeWidth, Picks, HeadRange, ReadLength, WriteLength, NodesLength, NotABit, Acknowledge, SecondOne, FirstLine, InputLength, Code, UnusedBit, WaitingLength, Overflow, NodeByte, Total, Holder, Station, HeadsLength, Link, Filler}
 pub mod Laws
+pub mod Known
 
 -- the number of the question that was answered no
 abbrev pub number : Refusal → ℕ
@@ -58,12 +59,12 @@ abbrev pub words : Refusal → List ℕ
 words Width = codes "the width must be 1 to 1,024"
 words TreeWidth = codes "the tree's width must be a power of two, at least 2"
 words Picks = codes "the picks must be 1 to 8, at most the width, and 1 for tree, bus and packed scan"
-words HeadRange = codes "a head or wire must be below the width, and the bus must have a token"
+words HeadRange = codes "a head or wire must be below the width, a saved head needs its mark, and the bus a token"
 words ReadLength = codes "the buffer that is read has the wrong length"
 words WriteLength = codes "the buffer that is written has the wrong length"
 words NodesLength = codes "the node buffer must be twice as long as the width"
 words Acknowledge = codes "the acknowledge byte is neither 0 nor 1"
-words FirstLine = codes "the first line must be S, T, P or B, the width and the picks, a space apart"
+words FirstLine = codes "the first line must be S, T, P or B, the width and the picks, with one space between"
 words InputLength = codes "the input must be at most 65,536 bytes long"
 words Code = codes "the adder takes two thermometer codes for the picks"
 words WaitingLength = codes "there must be one waiting number for each station"
@@ -84,7 +85,7 @@ text (Link p) = codes "the link in record " ++ (decimal p ++ codes " is past the
 text (Filler p) = codes "record " ++ (decimal p ++ codes " has a filler byte or an unused bit that is not 0")
 text refusal = words refusal
 
--- each question has its number, 1 to 23
+-- every refusal's number is 1 to 23
 abbrev pub Numbered : Type 0
 Numbered = (refusal : Refusal) → (1 ≤ number refusal) × (number refusal ≤ 23)
 
@@ -95,3 +96,7 @@ placing = 8 ∷ 10 ∷ 14 ∷ 16 ∷ 17 ∷ 22 ∷ 23 ∷ []
 -- the place is 0 for all others
 abbrev pub Placed : Type 0
 Placed = (refusal : Refusal) → (member (number refusal) placing ≡ true → ⊥) → place refusal ≡ 0
+
+-- each of them can name any place: there is a refusal with its number and that place
+abbrev pub AnyPlace : Type 0
+AnyPlace = (question p : ℕ) → member question placing ≡ true → (refusal : Refusal) × (number refusal ≡ question) × (place refusal ≡ p)

@@ -17,26 +17,14 @@ use crate::refusal::Refusal;
 use crate::{Answer, Decision, Granted, State, idle, opened, question};
 use rules::Head;
 
-/// An arbiter: what it asks about a state, and the state that it serves.
+/// An arbiter: what it asks about a state, and how it opens.
 pub trait Arbiter: Copy {
     ghost questions: { States.State → Questions.Verdict };
-
-    ghost state_of: { Self → States.State };
 
     /// The questions about a state, in their order.
     // It has no default: what it promises is the arbiter's own.
     fn ask(state: &State) -> Verdict
         ensures { result ≡ questions state.now };
-
-    /// The state.
-    // This and the next have no default, since a trait sees no field.
-    fn state(&self) -> &State
-        ensures { result.now ≡ state_of self.now };
-
-    /// Takes the next head where a cycle was decided. It says what is granted, or the refusal.
-    fn settle(&mut self, decided: Result<Decision, Refusal>) -> Result<Granted, Refusal>
-        ensures value { result ≡ (Answers.answered (state_of self.old) decided).outcome }
-        ensures state_after { state_of self.new ≡ (Answers.answered (state_of self.old) decided).state };
 
     /// Opens with no head. Asks what the arbiter asks about a state: each asks 1 and 3, so a width of 1,025 is refused by 1, nine picks
     /// by 3.
@@ -96,8 +84,21 @@ fn differ(left: &[u8], right: &[u8]) -> bool
     *left != *right
 }
 
-/// An arbiter that grants by the round-robin rule, a byte for each station.
+/// An arbiter that grants by the round-robin rule, a byte for each station, with the state that it serves. Three functions run a cycle:
+/// `arbitrate` decides it and leaves the state, `advance` moves the state in place, and `cycle` takes the state and hands it back.
 pub trait RoundRobin: Arbiter {
+    ghost state_of: { Self → States.State };
+
+    /// The state.
+    // This and the next have no default, since a trait sees no field.
+    fn state(&self) -> &State
+        ensures { result.now ≡ state_of self.now };
+
+    /// Takes the next head where a cycle was decided. It says what is granted, or the refusal.
+    fn settle(&mut self, decided: Result<Decision, Refusal>) -> Result<Granted, Refusal>
+        ensures value { result ≡ (Answers.answered (state_of self.old) decided).outcome }
+        ensures state_after { state_of self.new ≡ (Answers.answered (state_of self.old) decided).state };
+
     /// Writes the grants of a cycle, and says what it decides. Nothing else of the cycle changes.
     fn grant(cycle: &mut ServedCycle<'_>) -> Decision
         ensures value { result ≡ decision (length cycle.old.requests.now) cycle.old.picks cycle.old.head (requested cycle.old.requests.now) }
@@ -107,8 +108,9 @@ pub trait RoundRobin: Arbiter {
         ensures same_reference { cycle.new.grants.ghost_name ≡ cycle.old.grants.ghost_name }
         ensures grants_after { cycle.new.grants.now ≡ RoundRobinRule.grants (length cycle.old.requests.now) cycle.old.picks cycle.old.head (requested cycle.old.requests.now) };
 
-    /// The questions of a cycle of this state, and what it decides where they pass; then it writes the grants of these requests. Asks 1,
-    /// 3, 4, 5, 6 and 8. The state stays: `advance` and `cycle` take what is decided into it.
+    /// Decides a cycle: writes the grants of these requests, and answers with what is granted and the next head. The state stays as it
+    /// is. Asks 1, 3, 4, 5, 6 and 8, in this order; refused, it leaves the grants as they were. With 4 stations, 2 picks, head 3 and all
+    /// asking it grants 3 and 0, and answers with count 2, more pending and next head 1.
     // Where the highest byte of the requests is 0 nobody asks.
     final fn arbitrate(
         state: &State,
@@ -133,22 +135,24 @@ pub trait RoundRobin: Arbiter {
         Ok(Self::grant(&mut cycle))
     }
 
-    /// One cycle, in place: writes the grants of these requests, takes the next head, and answers with the count of the grants and whether
-    /// more are pending. Asks 1, 3, 4, 5, 6 and 8. With 4 stations, 2 picks, head 3 and all asking it grants 3 and 0, the next head is 1,
-    /// and more are pending.
+    /// A cycle in place: writes the grants of these requests, takes the next head into the state, and answers with the count of the grants
+    /// and whether more are pending. Asks 1, 3, 4, 5, 6 and 8, in this order; refused, it leaves state and grants as they were. With 4
+    /// stations, 2 picks, head 3 and all asking it grants 3 and 0, leaves head 1, and answers with count 2 and more pending.
     final fn advance(&mut self, requests: &[u8], grants: &mut [u8]) -> Result<Granted, Refusal>
-        ensures value { result ≡ (RoundRobinCalls.cycle (Self.state_of self.old) requests.now grants.old).answer.outcome }
-        ensures state_after { Self.state_of self.new ≡ (RoundRobinCalls.cycle (Self.state_of self.old) requests.now grants.old).answer.state }
-        ensures grants_after { grants.new ≡ (RoundRobinCalls.cycle (Self.state_of self.old) requests.now grants.old).written }
+        ensures value { result ≡ (RoundRobinCalls.cycle (state_of self.old) requests.now grants.old).answer.outcome }
+        ensures state_after { state_of self.new ≡ (RoundRobinCalls.cycle (state_of self.old) requests.now grants.old).answer.state }
+        ensures grants_after { grants.new ≡ (RoundRobinCalls.cycle (state_of self.old) requests.now grants.old).written }
     {
         let decided = Self::arbitrate(self.state(), requests, grants);
         self.settle(decided)
     }
 
-    /// The same with the state handed in and back.
+    /// A cycle by value: the same as `advance`, with the state handed in and back. Asks 1, 3, 4, 5, 6 and 8, in this order; refused, it
+    /// hands back the state that it was given, and leaves the grants as they were. With 4 stations, 2 picks, head 3 and all asking it
+    /// grants 3 and 0, and answers with a state of head 1, count 2 and more pending.
     final fn cycle(mut self, requests: &[u8], grants: &mut [u8]) -> Answer<Granted>
-        ensures value { result ≡ (RoundRobinCalls.cycle (Self.state_of self) requests.now grants.old).answer }
-        ensures grants_after { grants.new ≡ (RoundRobinCalls.cycle (Self.state_of self) requests.now grants.old).written }
+        ensures value { result ≡ (RoundRobinCalls.cycle (state_of self) requests.now grants.old).answer }
+        ensures grants_after { grants.new ≡ (RoundRobinCalls.cycle (state_of self) requests.now grants.old).written }
     {
         let outcome = self.advance(requests, grants);
         Answer {

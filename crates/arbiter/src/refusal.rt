@@ -29,7 +29,7 @@ pub enum Refusal {
     TreeWidth,
     /// 3: the pick count is not allowed.
     Picks,
-    /// 4: the head, the token or the wire is not below the width, or there is no token.
+    /// 4: the head, the token or the wire is not below the width, a saved head has no mark, or there is no token.
     HeadRange,
     /// 5: a buffer that is read has the wrong length.
     ReadLength,
@@ -118,9 +118,7 @@ impl Refusal {
             _ => 0,
         }
     }
-}
 
-impl Refusal {
     // The words of a refusal that names no place, and none of the others.
     fn words(self) -> &'static str
         ensures { result.now ≡ Refusals.words self }
@@ -131,13 +129,13 @@ impl Refusal {
             Refusal::Picks =>
                 "the picks must be 1 to 8, at most the width, and 1 for tree, bus and packed scan",
             Refusal::HeadRange =>
-                "a head or wire must be below the width, and the bus must have a token",
+                "a head or wire must be below the width, a saved head needs its mark, and the bus a token",
             Refusal::ReadLength => "the buffer that is read has the wrong length",
             Refusal::WriteLength => "the buffer that is written has the wrong length",
             Refusal::NodesLength => "the node buffer must be twice as long as the width",
             Refusal::Acknowledge => "the acknowledge byte is neither 0 nor 1",
             Refusal::FirstLine =>
-                "the first line must be S, T, P or B, the width and the picks, a space apart",
+                "the first line must be S, T, P or B, the width and the picks, with one space between",
             Refusal::InputLength => "the input must be at most 65,536 bytes long",
             Refusal::Code => "the adder takes two thermometer codes for the picks",
             Refusal::WaitingLength => "there must be one waiting number for each station",

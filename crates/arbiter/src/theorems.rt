@@ -1,7 +1,8 @@
 //! What the questions say. No function here does anything: its clause is a theorem.
 ghost use Rattle.arbiter.specs.Cycle.Known.{KnownCycleQuestions};
 ghost use Rattle.arbiter.specs.Questions.Known.{KnownQuestions};
-ghost use Rattle.arbiter.specs.Refusals.{Numbered, Placed};
+ghost use Rattle.arbiter.specs.Refusals.{AnyPlace, Numbered, Placed};
+ghost use Rattle.arbiter.specs.Refusals.Known.{KnownRefusals};
 ghost use Rattle.arbiter.specs.Theorems.{HighestPasses, HighestSilent};
 
 /// Question 8 passes exactly if the highest byte is at most 1.
@@ -28,7 +29,7 @@ pub fn known_cycle_questions()
     ensures { KnownCycleQuestions }
 {}
 
-/// Each question has its number, 1 to 23.
+/// Every refusal's number is 1 to 23.
 #[tactic(auto, using(crate::specs::Refusals::Laws::numbered))]
 pub fn numbered()
     ensures { Numbered }
@@ -38,4 +39,16 @@ pub fn numbered()
 #[tactic(auto, using(crate::specs::Refusals::Laws::placed))]
 pub fn placed()
     ensures { Placed }
+{}
+
+/// Each of these can name any place: there is a refusal with its number and that place.
+#[tactic(auto, using(crate::specs::Refusals::Laws::any_place))]
+pub fn any_place()
+    ensures { AnyPlace }
+{}
+
+/// Small cases of the refusals: their numbers, places and words.
+#[tactic(auto, using(crate::specs::Refusals::Known::known))]
+pub fn known_refusals()
+    ensures { KnownRefusals }
 {}

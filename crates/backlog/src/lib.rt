@@ -22,10 +22,11 @@ const FEW: usize = 64;
 pub struct Backlog(pub State);
 
 impl Backlog {
-    /// One cycle of an engine, in place: adds the arrivals to the waiting numbers, writes the grants of the stations that then have a
-    /// message waiting, takes one from each granted, and answers as the engine's own cycle does. Asks what that asks, but 5 of the arrivals
-    /// and 8 not at all, 15 after 6 and 16 last. Only the tree asks about the node buffer and writes it. With 4 stations, one pick, head 2,
-    /// waiting numbers 3 0 0 0 and arrivals 0 1 0 0 each engine grants 0: 2 1 0 0 are left, the next head is 1, and more are pending.
+    /// A cycle of an engine in place: adds the arrivals to the waiting numbers, writes the grants of the stations that then have a message
+    /// waiting, and the tree its nodes, takes one message from each granted station, takes the next head into the state, and answers with
+    /// the count of the grants and whether more are pending. Asks 1, 3, 4, 5, 6, 15 and 16, in this order, the tree 2 after 1 and 7 after
+    /// 15; refused, it leaves the state and all three buffers as they were. With 4 stations, one pick, head 2, waiting numbers 3 0 0 0 and
+    /// arrivals 0 1 0 0 each engine grants 0, leaves 2 1 0 0 waiting and head 1, and answers with count 1 and more pending.
     #[tactic(auto, using(crate::specs::Calls::Laws::lent_passed, crate::specs::Calls::Laws::passed_cycle, crate::specs::Calls::Laws::granted_bits, crate::specs::Calls::Laws::granted_wait))]
     pub fn advance(
         &mut self,
@@ -56,7 +57,10 @@ impl Backlog {
         self.0.settle(decided)
     }
 
-    /// The same with the state handed in and back.
+    /// A cycle of an engine by value: the same as `advance`, with the state handed in and back. Asks 1, 3, 4, 5, 6, 15 and 16, in this
+    /// order, the tree 2 after 1 and 7 after 15; refused, it hands back the state that it was given, and leaves all three buffers as they
+    /// were. With 4 stations, one pick, head 2, waiting numbers 3 0 0 0 and arrivals 0 1 0 0 each engine grants 0, leaves 2 1 0 0 waiting,
+    /// and answers with a state of head 1, count 1 and more pending.
     pub fn cycle(
         mut self,
         engine: Engine,
@@ -81,7 +85,6 @@ impl Backlog {
 // Adds the arrivals to the waiting numbers, and lets every station ask that then has a message waiting: writes the requests at the start of
 // `room`, and lends them on. One pass, since reading the numbers is most of a large cycle's time. By index: of what is written through `zip`
 // a proof knows the length alone.
-#[inline(never)]
 fn receive<'a>(arrivals: &[u8], waiting: &mut [u32], room: &'a mut [u8]) -> &'a [u8]
     requires arrivals_len { length arrivals.now ≡ length waiting.old }
     requires room_len { length waiting.old ≤ length room.old }
@@ -99,7 +102,6 @@ fn receive<'a>(arrivals: &[u8], waiting: &mut [u32], room: &'a mut [u8]) -> &'a 
 }
 
 // Takes one from each granted station, whose byte is 1.
-#[inline(never)]
 fn take(grants: &[u8], waiting: &mut [u32])
     requires grants_len { length grants.now ≡ length waiting.old }
     requires bits { Bits grants.now }

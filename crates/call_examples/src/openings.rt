@@ -1,7 +1,7 @@
 // Openings.
 use crate::{refused, served, state};
 use arbiter::State;
-use arbiter::engine::Arbiter;
+use arbiter::engine::{Arbiter, RoundRobin};
 use engines::{Dispatch, Engine};
 use kogge_stone::KoggeStone;
 use packed_scan::PackedScan;

@@ -59,12 +59,12 @@ fn says_why(rt: HostRuntime) -> Result<(), Fail> {
 #[test]
 fn decides(rt: HostRuntime) -> Result<(), Fail> {
     assert!(rt; (idle(4, Some(1)), idle(4, None)) == (headed(Some(1)), headed(Some(3))));
-    let granted = Granted {
+    let decision = Decision {
         count: 2,
+        next: Some(0),
         more: true,
     };
-    let next = Some(0);
-    assert!(rt; decide(4, Some(2), 2, Some(3), true) == Decision { granted, next });
+    assert!(rt; decide(4, Some(2), 2, Some(3), true) == decision);
     assert!(rt; (past(4, 2), past(4, 3), past(4, 9)) == (3, 0, 0));
     assert!(rt; (first_station(Some(2)), first_station(None)) == (2, 0));
     Ok(())

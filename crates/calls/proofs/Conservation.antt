@@ -16,10 +16,10 @@ use Rattle.calls.specs.Messages.{has_messages, message_cycles, Finds, now_waitin
 -- so does a list, as each of its cycles does: `arrives` is what comes in, `goes` what is taken and `holds` what waits, of one station or of all
 module _ (arrives goes : Made → ℕ) (holds : List ℕ → ℕ)
     (once : (s : State) (e : Engine) (arrivals waiting grants nodes : List ℕ) → let m = made s (cycle (backlog_cycle e arrivals waiting grants nodes)) in
-    number m.answer ≡ 0 → arrives m + holds waiting ≡ goes m + holds m.messages.left) where
+    number m.answer ≡ 0 → arrives m + holds waiting ≡ goes m + holds m.messages.remaining) where
   -- one that was served
   one : (s : State) (c : Call) → let m = made s c in
-      cycle_that has_messages m.call ≡ true → was_served m ≡ true → arrives m + holds m.messages.waiting ≡ goes m + holds m.messages.left
+      cycle_that has_messages m.call ≡ true → was_served m ≡ true → arrives m + holds m.messages.waiting ≡ goes m + holds m.messages.remaining
   one s (cycle (backlog_cycle e arrivals waiting grants nodes)) t z = once s e arrivals waiting grants nodes (eqb-true _ 0 z)
   one s _ t z = absurd (true≢false (sym t))
 
@@ -34,13 +34,13 @@ module _ (arrives goes : Made → ℕ) (holds : List ℕ → ℕ)
       (λ z.
       ListsLaws.split (cycle_that has_messages m.call)
       (λ t.
-      let found : (m.messages.waiting ≡ start) × Finds m.messages.left rest = rw (z, t) at finds in
+      let found : (m.messages.waiting ≡ start) × Finds m.messages.remaining rest = rw (z, t) at finds in
       rw (z, t)
       (omega (
         arith,
         ap holds found.0,
         one q k.call t z,
-        kept m.answer.state ks m.messages.left found.1,
+        kept m.answer.state ks m.messages.remaining found.1,
         sum_by-cons arrives m rest,
         sum_by-cons goes m rest,
       )))

@@ -43,15 +43,15 @@ abbrev pub cycle_that : (Cycle → Bool) → Call → Bool
 cycle_that test (cycle c) = test c
 cycle_that test _ = false
 
--- the messages of a cycle, a number for each station: those that arrive, those that wait before, and those that are left waiting
+-- the messages of a cycle, a number for each station: those that arrive, those that wait before it, and those that wait after it
 pub record Messages : Type 0 where
   pub arrivals : List ℕ
   pub waiting : List ℕ
-  pub left : List ℕ
+  pub remaining : List ℕ
 
 -- those of a call that knows none
 abbrev pub no_messages : Messages
-no_messages = record { arrivals = []; waiting = []; left = [] }
+no_messages = record { arrivals = []; waiting = []; remaining = [] }
 
 -- a call that was made: the call; the state that it was given, which is `nothing` where it makes one; its answer; of a cycle the
 -- requests, and the grants afterwards, a byte for each station, and the messages; and the buffers that it may write, as they were lent
@@ -112,7 +112,7 @@ ran s (backlog_cycle e arrivals waiting grants nodes) =
       answer = o.answer;
       requests = BacklogCalls.requests (BacklogCalls.arrived waiting arrivals);
       grants = o.grants;
-      messages = record { arrivals = arrivals; waiting = waiting; left = o.waiting };
+      messages = record { arrivals = arrivals; waiting = waiting; remaining = o.waiting };
       lent = waiting ∷ grants ∷ nodes ∷ [];
       left = o.waiting ∷ o.grants ∷ o.nodes ∷ [];
     }
@@ -150,7 +150,7 @@ made s (image_write former) = writing (image_write former) s (OneHotCalls.write 
 made s (snapshot_read bytes) = unwriting (snapshot_read bytes) nothing (SnapshotCalls.read bytes)
 made s (snapshot_write former) = writing (snapshot_write former) s (SnapshotCalls.write s former) former
 
--- a call of a list, with the pick count that the state which is handed on gets for it
+-- a step of a list: a call, and the pick count that its state gets
 pub record Step : Type 0 where
   pub picks : ℕ
   pub call : Call
@@ -164,8 +164,7 @@ run s (k ∷ ks) = let m = made (with_picks s k.picks) k.call in m ∷ run m.ans
 abbrev pub was_served : Made → Bool
 was_served m = cycle_that (λ _. true) m.call && eqb (number m.answer) 0
 
--- the served cycles of a list: two that stand side by side here follow one another, with none but calls between that were refused or are
--- no cycles
+-- the served cycles of a list, in order: what stood between two of them was refused, or is no cycle
 abbrev pub served : List Made → List Made
 served ms = filter was_served ms
 

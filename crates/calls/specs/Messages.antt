@@ -21,12 +21,12 @@ message_cycles s steps = filter (λ m. cycle_that has_messages m.call) (served (
 -- numbers as it was given them is `refused_as_given`
 abbrev pub Finds : List ℕ → List Made → Type 0
 Finds start [] = Unit {0}
-Finds start (m ∷ ms) = (m.messages.waiting ≡ start) × Finds m.messages.left ms
+Finds start (m ∷ ms) = (m.messages.waiting ≡ start) × Finds m.messages.remaining ms
 
 -- the numbers that the last one left
 abbrev pub now_waiting : List ℕ → List Made → List ℕ
 now_waiting start [] = start
-now_waiting start (m ∷ ms) = now_waiting m.messages.left ms
+now_waiting start (m ∷ ms) = now_waiting m.messages.remaining ms
 
 -- for each station
 abbrev pub EachKept : Type 0

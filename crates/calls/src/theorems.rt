@@ -43,7 +43,7 @@ pub fn adder_answers()
     ensures { AdderAnswers }
 {}
 
-/// In any list, at each station, what arrived and what waited at the start are together what was granted and what waits now.
+/// In any list whose cycles with messages waiting each find the numbers that the one before left: at each station, what arrived and what waited at the start are together what was granted and what waits now.
 #[tactic(auto, using(crate::proofs::Conservation::each_kept))]
 pub fn each_kept()
     ensures { EachKept }

@@ -50,8 +50,10 @@ impl Engine {
         }
     }
 
-    /// The questions of the engine's cycle of this state, and what it decides where they pass; then it writes the grants of these
-    /// requests, and the tree its nodes. The state stays: `Dispatch` takes what is decided into it.
+    /// Decides a cycle of the engine: writes the grants of these requests, and the tree its nodes, and answers with what is granted and the
+    /// next head. The state stays as it is. Asks 1, 3, 4, 5, 6 and 8, in this order, the tree 2 after 1 and 7 after 6; refused, it leaves
+    /// both buffers as they were. With 4 stations, one pick, head 2 and stations 0 and 1 asking, each engine grants 0, and answers with
+    /// count 1, more pending and next head 1.
     pub fn arbitrate(
         self,
         state: &State,
@@ -103,9 +105,10 @@ impl Dispatch {
         engine.opening(width, picks, Some(head))
     }
 
-    /// One cycle of an engine, in place: writes the grants of these requests, takes the next head, and answers with the count of the grants
-    /// and whether more are pending. Asks what the engine's own cycle asks. Only the tree asks about the node buffer and writes it. With 4
-    /// stations, head 2 and stations 0 and 1 asking, each engine grants 0, the next head is 1, and more are pending.
+    /// A cycle of an engine in place: writes the grants of these requests, and the tree its nodes, takes the next head into the state, and
+    /// answers with the count of the grants and whether more are pending. Asks 1, 3, 4, 5, 6 and 8, in this order, the tree 2 after 1 and 7
+    /// after 6; refused, it leaves the state and both buffers as they were. With 4 stations, one pick, head 2 and stations 0 and 1 asking,
+    /// each engine grants 0, leaves head 1, and answers with count 1 and more pending.
     pub fn advance(
         &mut self,
         engine: Engine,
@@ -122,7 +125,10 @@ impl Dispatch {
         self.0.settle(decided)
     }
 
-    /// The same with the state handed in and back.
+    /// A cycle of an engine by value: the same as `advance`, with the state handed in and back. Asks 1, 3, 4, 5, 6 and 8, in this order,
+    /// the tree 2 after 1 and 7 after 6; refused, it hands back the state that it was given, and leaves both buffers as they were. With 4
+    /// stations, one pick, head 2 and stations 0 and 1 asking, each engine grants 0, and answers with a state of head 1, count 1 and more
+    /// pending.
     pub fn cycle(
         mut self,
         engine: Engine,

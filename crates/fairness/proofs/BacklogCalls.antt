@@ -17,7 +17,7 @@ use Rattle.arbiter.specs.Answers.{number}
 use Rattle.backlog.specs.Calls.{arrived, taken}
 use Rattle.backlog.specs.Calls.Laws as BacklogCallsLaws
 use Rattle.calls.specs.Calls.{Cycle, backlog_cycle, Made, ran, Step, run, served, asks, granted}
-use Rattle.calls.specs.Messages.{Finds}
+use Rattle.calls.specs.Messages.{has_messages, Finds}
 use Rattle.fairness.specs.Cycles.{Chain}
 use Rattle.fairness.specs.Kinds.{with_messages, picks_of}
 use Rattle.fairness.specs.Waiting.{Of, AsksUntilGranted}
@@ -33,10 +33,10 @@ message_asks s _ w t = absurd (true≢false (sym t))
 -- what a served cycle with messages waiting takes: from the numbers that there are after the arrivals, what it grants
 pub record Takes (m : Made) : Type 0 where
   pub came : length m.messages.arrivals ≡ length m.messages.waiting
-  pub takes : m.messages.left ≡ taken (arrived m.messages.waiting m.messages.arrivals) m.grants
+  pub takes : m.messages.remaining ≡ taken (arrived m.messages.waiting m.messages.arrivals) m.grants
   pub wants : (w : ℕ) → asks w m ≡ has_message w m
 
-takes_of : (s : State) (c : Cycle) → with_messages.is c ≡ true → number (ran s c).answer ≡ 0 → Takes (ran s c)
+takes_of : (s : State) (c : Cycle) → has_messages c ≡ true → number (ran s c).answer ≡ 0 → Takes (ran s c)
 takes_of s (backlog_cycle e arrivals waiting grants nodes) t z =
     let p = BacklogCallsLaws.served_passes e s arrivals waiting grants nodes z in
     let l = BacklogCallsLaws.lent_passed e s arrivals waiting grants nodes p in
@@ -54,7 +54,7 @@ pub record Found (start : List ℕ) (m : Made) : Type 0 where
 
 -- the waiting numbers that it leaves for the next
 abbrev pub leaves : List ℕ → Made → List ℕ
-leaves start m = m.messages.left
+leaves start m = m.messages.remaining
 
 -- a list of the kind from the state s
 module _ (s : State) (steps : List Step) (pass : Of with_messages s steps) where
@@ -74,10 +74,10 @@ module _ (s : State) (steps : List Step) (pass : Of with_messages s steps) where
 -- they follow one another so, where each finds the numbers that the one before left
 pub found_follow : (ms : List Made) (start : List ℕ) → All Takes ms → Finds start ms → Chain Found leaves start ms
 found_follow [] start all finds = tt
-found_follow (m ∷ ms) start all finds = (record { found = finds.0; takes = all.0 }, found_follow ms m.messages.left all.1 finds.1)
+found_follow (m ∷ ms) start all finds = (record { found = finds.0; takes = all.0 }, found_follow ms m.messages.remaining all.1 finds.1)
 
 -- a station that has a message and is not granted still has it in the next of them
-message_stays : (w : ℕ) (c d : Made) (start : List ℕ) → Found start c → Found c.messages.left d → has_message w c ≡ true
+message_stays : (w : ℕ) (c d : Made) (start : List ℕ) → Found start c → Found c.messages.remaining d → has_message w c ≡ true
     → granted w c ≡ false → has_message w d ≡ true
 message_stays w c d start this next has ungranted =
     lt-ltb 0 _ (omega (
@@ -95,5 +95,5 @@ pub keeps_asking : (w : ℕ) (m : Made) (ms : List Made) (start : List ℕ) → 
 keeps_asking w m [] start chain has = (chain.0.takes.wants w ∙ has, λ _. tt)
 keeps_asking w m (d ∷ ds) start chain has = (
   chain.0.takes.wants w ∙ has,
-  λ ungranted. keeps_asking w d ds m.messages.left chain.1 (message_stays w m d start chain.0 chain.1.0 has ungranted),
+  λ ungranted. keeps_asking w d ds m.messages.remaining chain.1 (message_stays w m d start chain.0 chain.1.0 has ungranted),
 )

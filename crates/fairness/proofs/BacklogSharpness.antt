@@ -8,7 +8,7 @@ use Rattle.arbiter.specs.declared.State.{State}
 use Rattle.engines.specs.declared.Engine.TheVariants.{Scan}
 use Rattle.engines.specs.Calls.Laws.{engine_opens}
 use Rattle.calls.specs.Calls.{run, served}
-use Rattle.fairness.specs.Kinds.{Serves, with_messages}
+use Rattle.fairness.specs.Kinds.{EngineServes, with_messages}
 use Rattle.fairness.specs.Backlog.{BacklogGrantedWithin}
 use Rattle.fairness.proofs.Fillings.{filled, filled_pass, filled_served, none}
 use Rattle.fairness.proofs.Sharpness.{AllAsking, few, last, last_passed, waits_ask, unmet}
@@ -17,7 +17,7 @@ use Rattle.fairness.proofs.BacklogCalls.{all_take}
 
 -- a state that some engine serves
 module _ (s : State) (serves : with_messages.Serves s) where
-  scan : Serves Scan s
+  scan : EngineServes Scan s
   scan = engine_opens s (messages_ruling.allows s serves)
 
   -- in so many cycles a station with messages may not be granted

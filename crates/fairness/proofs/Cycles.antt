@@ -16,7 +16,7 @@ use Rattle.rules.specs.RoundRobin.{start, order, granted, next}
 use Rattle.rules.proofs.RoundRobin.Laws as RoundRobinLaws
 use Rattle.rules.specs.Bus as BusRule
 use Rattle.rules.proofs.Bus.Laws as BusLaws
-use Rattle.fairness.specs.Cycles.{Cycle, next_head, Chain, Follows, Waits, total, WaitingCycles}
+use Rattle.fairness.specs.Cycles.{RuleCycle, next_head, Chain, Follows, Waits, total, WaitingCycles}
 
 -- some cycles of a chain, whatever stands before them and after them
 module _ {H C : Type 0} (right : H → C → Type 0) (next : H → C → H) where
@@ -127,18 +127,18 @@ module _ (n m : ℕ) (h : Head) (asks : ℕ → Bool) (w : ℕ) (some : 0 < m) (
       )
 
 -- all that the cycles grant, one cycle after the other
-abbrev grantees : ℕ → Head → List Cycle → List ℕ
+abbrev grantees : ℕ → Head → List RuleCycle → List ℕ
 grantees n h [] = []
 grantees n h (c ∷ cs) = granted n c.picks h c.asks ++ grantees n (next_head n h c) cs
 
 -- the head after them
-abbrev end : ℕ → Head → List Cycle → Head
+abbrev end : ℕ → Head → List RuleCycle → Head
 end n h [] = h
 end n h (c ∷ cs) = end n (next_head n h c) cs
 
 -- while w waits, all that the cycles grant, and all that stand before w afterwards, stood before w at the start
 module _ (n w : ℕ) (station : w < n) where
-  waited : (p : ℕ → Bool) (cs : List Cycle) (h : Head) → Follows n h cs → Waits w cs
+  waited : (p : ℕ → Bool) (cs : List RuleCycle) (h : Head) → Follows n h cs → Waits w cs
       → count p (grantees n h cs) + count p (before w (order n (end n h cs))) ≤ count p (before w (order n h))
   waited p [] h follow waits = omega arith
   waited p (c ∷ cs) h follow waits =
@@ -151,7 +151,7 @@ module _ (n w : ℕ) (station : w < n) where
       )
 
   -- each of them makes all its picks
-  picked : (cs : List Cycle) (h : Head) → Follows n h cs → Waits w cs → count (λ _. true) (grantees n h cs) ≡ total cs
+  picked : (cs : List RuleCycle) (h : Head) → Follows n h cs → Waits w cs → count (λ _. true) (grantees n h cs) ≡ total cs
   picked [] h follow waits = refl
   picked (c ∷ cs) h follow waits =
       let r = follow.0 in
@@ -165,7 +165,7 @@ module _ (n w : ℕ) (station : w < n) where
       )
 
 -- whoever a cycle grants is among them
-among : (n v : ℕ) (cs : List Cycle) (h : Head) → Follows n h cs → count (λ c. c.grants v) cs ≤ count (eqb v) (grantees n h cs)
+among : (n v : ℕ) (cs : List RuleCycle) (h : Head) → Follows n h cs → count (λ c. c.grants v) cs ≤ count (eqb v) (grantees n h cs)
 among n v [] h follow = omega arith
 among n v (c ∷ cs) h follow =
     let here = granted n c.picks h c.asks in

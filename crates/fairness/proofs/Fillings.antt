@@ -27,12 +27,12 @@ use Rattle.backlog.specs.Calls.Laws as BacklogCallsLaws
 use Rattle.calls.specs.Calls.{Cycle, backlog_cycle, cycle, Made, ran, Step, run, served}
 use Rattle.calls.specs.Messages.{Finds}
 use Rattle.calls.proofs.EveryCall as EveryCall
-use Rattle.fairness.specs.Kinds.{Serves, with_messages}
+use Rattle.fairness.specs.Kinds.{EngineServes, with_messages}
 use Rattle.fairness.specs.Waiting.{Of}
 use Rattle.fairness.proofs.Sharpness.{ones, Full, All}
 
 -- a state that the plain scan serves
-module _ (s : State) (opens : Serves Scan s) where
+module _ (s : State) (opens : EngineServes Scan s) where
   -- a cycle with one message that comes for each station
   abbrev filling : List ℕ → Cycle
   filling waiting = backlog_cycle Scan (ones s.width) waiting (replicate s.width 0) []
@@ -41,12 +41,12 @@ module _ (s : State) (opens : Serves Scan s) where
   abbrev fillings : ℕ → State → List ℕ → List Step
   fillings zero q waiting = []
   fillings (suc k) q waiting =
-      let m = ran q (filling waiting) in record { picks = s.picks; call = cycle (filling waiting) } ∷ fillings k m.answer.state m.messages.left
+      let m = ran q (filling waiting) in record { picks = s.picks; call = cycle (filling waiting) } ∷ fillings k m.answer.state m.messages.remaining
 
   fillings_pass : (k : ℕ) (q : State) (waiting : List ℕ) → Of with_messages s (fillings k q waiting)
   fillings_pass zero q waiting = tt
   fillings_pass (suc k) q waiting =
-      let m = ran q (filling waiting) in (eq-eqb s.picks s.picks refl, fillings_pass k m.answer.state m.messages.left)
+      let m = ran q (filling waiting) in (eq-eqb s.picks s.picks refl, fillings_pass k m.answer.state m.messages.remaining)
 
   -- the numbers of the stations, to each of which k more may come
   record Room (k : ℕ) (waiting : List ℕ) : Type 0 where
@@ -109,10 +109,10 @@ module _ (s : State) (opens : Serves Scan s) where
         (BacklogCallsLaws.engine_number Scan (moved s h) (ones s.width) waiting grants [] answers)
 
     -- and k more may come after it
-    room_left : Room k here.messages.left
+    room_left : Room k here.messages.remaining
     room_left =
         let grants = here.grants in
-        let e : here.messages.left ≡ taken numbers grants =
+        let e : here.messages.remaining ≡ taken numbers grants =
         rw (BacklogCallsLaws.passed_cycle Scan (moved s h) (ones s.width) waiting (replicate s.width 0) [] answers) refl in
         record {
           long = ap (λ (l : List ℕ). length l) e ∙ BacklogCallsLaws.taken_length numbers grants ∙ size;
@@ -136,7 +136,7 @@ module _ (s : State) (opens : Serves Scan s) where
       let m = ran q c in
       let z = serves h g k waiting room in
       let to = EveryCall.head_after q c z in
-      let rest = all_served k (Some to.0) m.messages.left (omega (arith, to.1, RoundRobinLaws.start_at to.0)) (room_left h g k waiting room) in
+      let rest = all_served k (Some to.0) m.messages.remaining (omega (arith, to.1, RoundRobinLaws.start_at to.0)) (room_left h g k waiting room) in
       rw (eq-eqb _ 0 z, to.2) (ap suc rest.0, (all_ask h g k waiting room, rest.1), (refl, rest.2))
 
   -- k of them, with no message at the start

@@ -7,3 +7,4 @@ pub mod Waiting
 pub mod BacklogCalls
 pub mod BacklogSharpness
 pub mod Backlog
+pub mod Turns

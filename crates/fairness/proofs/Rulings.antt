@@ -28,9 +28,10 @@ use Rattle.packed_scan.proofs.AsScan.{served_packed}
 use Rattle.engines.specs.declared.Engine.{Engine}
 use Rattle.engines.specs.declared.Engine.TheVariants.{Scan}
 use Rattle.engines.specs.Calls.Laws.{engine_opens, engine_serves, nodes_fit, opens_allowed}
-use Rattle.calls.specs.Calls.{Cycle, engine_cycle, packed_cycle, backlog_cycle, ran}
-use Rattle.fairness.specs.Kinds.{Kind, Serves, SomeServes, by_engines, with_messages, packed, by_rule}
-use Rattle.fairness.proofs.Calls.{rule_served}
+use Rattle.calls.specs.Calls.{Cycle, engine_cycle, packed_cycle, backlog_cycle, cycle, ran}
+use Rattle.calls.specs.Messages.{has_messages}
+use Rattle.fairness.specs.Kinds.{Kind, has_engine, has_packed, grants_by_rule, EngineServes, SomeServes, by_engines, with_messages, packed, by_rule}
+use Rattle.fairness.proofs.Calls.{weaker, rule_served}
 use Rattle.fairness.proofs.Sharpness.{ones, ones_bits, AllAsking, all_asking, Ruling}
 use Rattle.fairness.proofs.Fillings.{filled, filled_pass, filled_served}
 
@@ -39,11 +40,11 @@ some_allowed : (s : State) → SomeServes s → Allowed s
 some_allowed s o = opens_allowed o.0 s o.1
 
 -- and where a cycle of the rule is served, the scan serves the state
-some_serves : (s : State) (c : Cycle) → by_rule.is c ≡ true → number (ran s c).answer ≡ 0 → SomeServes s
+some_serves : (s : State) (c : Cycle) → grants_by_rule c ≡ true → number (ran s c).answer ≡ 0 → SomeServes s
 some_serves s c t z = (Scan, engine_opens s (rule_served s c t z).allows)
 
 -- an engine that serves the state: the same call of it again and again
-module _ (s : State) (e : Engine) (opens : Serves e s) where
+module _ (s : State) (e : Engine) (opens : EngineServes e s) where
   abbrev call : Cycle
   call = engine_cycle e (ones s.width) (replicate s.width 0) (replicate (2 * s.width) 0)
 
@@ -56,19 +57,19 @@ module _ (s : State) (e : Engine) (opens : Serves e s) where
       (nodes_fit e n (length nodes) (length-replicate {A = ℕ} (2 * n) 0))
 
   -- of a kind that this call is of
-  asking : (k : Kind) → k.is call ≡ true → (size : ℕ) → AllAsking k s size
+  asking : (k : Kind) → k.is (cycle call) ≡ true → (size : ℕ) → AllAsking k s size
   asking k is size = all_asking k s call is (λ h. refl) call_serves (opens_allowed e s opens).station size
 
 pub engines_ruling : Ruling by_engines
 engines_ruling = record {
-  ruled = λ c t. of_engine c t;
+  ruled = weaker has_engine grants_by_rule of_engine;
   allows = some_allowed;
   serves = λ s c t z. some_serves s c (of_engine c t) z;
   asking = λ s o size l. asking s o.0 o.1 by_engines refl size;
   pair = (Scan, refl);
 }
   where
-    of_engine : (c : Cycle) → by_engines.is c ≡ true → by_rule.is c ≡ true
+    of_engine : (c : Cycle) → has_engine c ≡ true → grants_by_rule c ≡ true
     of_engine (engine_cycle e requests grants nodes) t = refl
     of_engine _ t = absurd (true≢false (sym t))
 
@@ -83,7 +84,7 @@ rule_ruling = record {
 
 pub messages_ruling : Ruling with_messages
 messages_ruling = record {
-  ruled = λ c t. of_messages c t;
+  ruled = weaker has_messages grants_by_rule of_messages;
   allows = some_allowed;
   serves = λ s c t z. some_serves s c (of_messages c t) z;
   asking = λ s o size l.
@@ -93,7 +94,7 @@ messages_ruling = record {
   pair = (Scan, refl);
 }
   where
-    of_messages : (c : Cycle) → with_messages.is c ≡ true → by_rule.is c ≡ true
+    of_messages : (c : Cycle) → has_messages c ≡ true → grants_by_rule c ≡ true
     of_messages (backlog_cycle e arrivals waiting grants nodes) t = refl
     of_messages _ t = absurd (true≢false (sym t))
 
@@ -134,19 +135,19 @@ module _ (s : State) (opens : packed.Serves s) where
 
 pub packed_ruling : Ruling packed
 packed_ruling = record {
-  ruled = λ c t. of_packed c t;
+  ruled = weaker has_packed grants_by_rule of_packed;
   allows = λ s o. (one_pick s o).allows;
   serves = opened;
   asking = λ s o size l. all_asking packed s (packed_call s o) refl (λ h. wires s o) (packed_serves s o) (one_pick s o).allows.station size;
   pair = refl;
 }
   where
-    of_packed : (c : Cycle) → packed.is c ≡ true → by_rule.is c ≡ true
+    of_packed : (c : Cycle) → has_packed c ≡ true → grants_by_rule c ≡ true
     of_packed (packed_cycle requests grants) t = refl
     of_packed _ t = absurd (true≢false (sym t))
 
     -- what it serves in a cycle it opens with
-    opened : (s : State) (c : Cycle) → packed.is c ≡ true → number (ran s c).answer ≡ 0 → packed.Serves s
+    opened : (s : State) (c : Cycle) → has_packed c ≡ true → number (ran s c).answer ≡ 0 → packed.Serves s
     opened s (packed_cycle requests grants) t z =
         let n = s.width in
         let one = PackedCalls.state_questions s in

@@ -30,13 +30,13 @@ use Rattle.arbiter.specs.Answers.Laws.{opened_passed}
 use Rattle.token_bus.specs.Calls as BusCalls
 use Rattle.token_bus.specs.Calls.Laws as BusCallsLaws
 use Rattle.calls.specs.Calls as Calls
-use Rattle.calls.specs.Calls.{Cycle, bus_cycle, cycle, Made, ran, Step, run, was_served, served, asks, Each}
+use Rattle.calls.specs.Calls.{Cycle, bus_cycle, Call, cycle, Made, ran, Step, run, was_served, served, asks, Each}
 use Rattle.calls.proofs.EveryCall as EveryCall
 use Rattle.fairness.specs.Cycles.{Chain}
 use Rattle.fairness.specs.Kinds.{Kind, by_rule, on_bus, picks_of}
 use Rattle.fairness.specs.Waiting.{Of, WaitOf, Shorter, GrantedFewer, AsksUntilGranted, GrantedWithin, acknowledged, GrantedAcknowledged}
 use Rattle.fairness.proofs.Cycles.{all_front, all_nearer, bus_nearer}
-use Rattle.fairness.proofs.Calls.{weaker, OfRule, Right, head_after, cycles, read_ruled, fixed_picks, BusRight, next_token, bus_cycles}
+use Rattle.fairness.proofs.Calls.{OfRule, Right, head_after, cycles, read_ruled, fixed_picks, BusRight, next_token, bus_cycles}
 
 -- all of n stations ask
 module _ (n : ℕ) where
@@ -102,7 +102,7 @@ module _ (s : State) (c : Cycle) where
   abbrev repeated : ℕ → List Step
   repeated k = replicate k (record { picks = s.picks; call = cycle c })
 
-  repeated_pass : (is : Cycle → Bool) → is c ≡ true → (k : ℕ) → Each (picks_of s.picks is) (repeated k)
+  repeated_pass : (is : Call → Bool) → is (cycle c) ≡ true → (k : ℕ) → Each (picks_of s.picks is) (repeated k)
   repeated_pass is t zero = tt
   repeated_pass is t (suc k) = (rw t (eq-eqb s.picks s.picks refl), repeated_pass is t k)
 
@@ -132,7 +132,7 @@ pub record AllAsking (k : Kind) (s : State) (size : ℕ) : Type 0 where
   pub full : All (Full s.width) (served (run s steps))
 
 -- a call of the kind in which all ask, and which is served whatever the head: it is made again and again
-pub all_asking : (k : Kind) (s : State) (c : Cycle) → k.is c ≡ true → ((h : Head) → Full s.width (ran (moved s h) c))
+pub all_asking : (k : Kind) (s : State) (c : Cycle) → k.is (cycle c) ≡ true → ((h : Head) → Full s.width (ran (moved s h) c))
     → ((h : Head) → start h < s.width → number (ran (moved s h) c).answer ≡ 0) → start s.head < s.width → (size : ℕ) → AllAsking k s size
 all_asking k s c is full serves first size =
     let all =
@@ -141,15 +141,15 @@ all_asking k s c is full serves first size =
 
 -- what is known of a kind whose cycles grant by the round-robin rule
 pub record Ruling (k : Kind) : Type 0 where
-  pub ruled : (c : Cycle) → k.is c ≡ true → by_rule.is c ≡ true
+  pub ruled : (c : Call) → k.is c ≡ true → by_rule.is c ≡ true
   pub allows : (s : State) → k.Serves s → Allowed s
-  pub serves : (s : State) (c : Cycle) → k.is c ≡ true → number (ran s c).answer ≡ 0 → k.Serves s
+  pub serves : (s : State) (c : Cycle) → k.is (cycle c) ≡ true → number (ran s c).answer ≡ 0 → k.Serves s
   pub asking : (s : State) → k.Serves s → (size : ℕ) → size ≤ s.width → AllAsking k s size
   pub pair : k.Serves (Answers.made 2 1 None)
 
--- so only cycles of the rule are of it
+-- so only calls of the rule's kind are of it
 pub picks_rule : (k : Kind) → Ruling k → (p : ℕ) → OfRule (picks_of p k.is)
-picks_rule k f p step t = weaker k.is by_rule.is f.ruled step.call (ListsLaws.both _ _ t).0
+picks_rule k f p step t = f.ruled step.call (ListsLaws.both _ _ t).0
 
 -- the station w of n asks in each of them
 all_ask : (n w : ℕ) → w < n → (ms : List Made) → All (Full n) ms → Each (asks w) ms
@@ -157,7 +157,7 @@ all_ask n w station [] full = tt
 all_ask n w station (m ∷ ms) full = (rw full.0 (asks_all n w station), all_ask n w station ms full.1)
 
 -- it is passed by, while as many others as are picked, or more, stand before it
-module _ (n p : ℕ) (is : Cycle → Bool) (w : ℕ) (station : w < n) where
+module _ (n p : ℕ) (is : Call → Bool) (w : ℕ) (station : w < n) where
   abbrev far : Head → ℕ
   far h = length (before w (order n h))
 
@@ -165,7 +165,7 @@ module _ (n p : ℕ) (is : Cycle → Bool) (w : ℕ) (station : w < n) where
       → (Calls.granted w m ≡ false) × (p + far (head_after n h m) ≡ far h)
   passes h m right full l =
       let r = read_ruled right in
-      let picks = fixed_picks right in
+      let picks = fixed_picks is right in
       let out : member w (granted n p h (everyone n)) ≡ false =
       RoundRobinLaws.granted_member n p h (everyone n) w (omega (arith, r.head)) station
       ∙ rw (asks_all n w station, before_asks n h w (omega (arith, r.head)) station, le-ltb (far h) p l) in
@@ -184,7 +184,7 @@ module _ (n p : ℕ) (is : Cycle → Bool) (w : ℕ) (station : w < n) where
       rw r.0 (omega (arith, all_pass k ms (head_after n h m) chain.1 full.1 (omega (arith, r.1))))
 
 -- the first station of the order is granted in the first of them
-first_granted : (n p : ℕ) (is : Cycle → Bool) (h : Head) (ms : List Made) → length ms ≡ 1
+first_granted : (n p : ℕ) (is : Call → Bool) (h : Head) (ms : List Made) → length ms ≡ 1
     → Chain (Right n (picks_of p is)) (head_after n) h ms
     → All (Full n) ms
     → count (Calls.granted (start h)) ms ≡ 1

@@ -20,14 +20,15 @@ use Rattle.rules.proofs.RoundRobin.Laws as RoundRobinLaws
 use Rattle.rules.specs.Bus as BusRule
 use Rattle.rules.proofs.Bus.Laws as BusLaws
 use Rattle.arbiter.specs.declared.State.{State}
+use Rattle.arbiter.specs.Answers.{with_picks}
 use Rattle.arbiter.specs.Answers.Laws.{opened_passed, passed_opened}
 use Rattle.token_bus.specs.Calls.Laws as BusCallsLaws
 use Rattle.calls.specs.Calls.{Made, Step, run, served, asks, granted, Each}
 use Rattle.fairness.specs.Cycles.{Chain, Waits}
 use Rattle.fairness.specs.Kinds.{Kind, by_engines, with_messages, packed, by_rule, on_bus, any_picks, picks_of}
-use Rattle.fairness.specs.Waiting.{OneLeast, UnservedRefused, Wait, FewPicks, PicksBounded, ceiling, WaitOf, BoundedWaiting, NotTwice, AsksUntilGranted, GrantedWithin, GrantedInTime, acknowledged, GrantedAcknowledged, BusBoundedWaiting}
+use Rattle.fairness.specs.Waiting.{OneLeast, UnservedRefused, Wait, FewPicks, PicksBounded, PicksNoFewer, ceiling, WaitOf, BoundedWaiting, NotTwice, AsksUntilGranted, GrantedWithin, GrantedInTime, acknowledged, GrantedAcknowledged, BusBoundedWaiting}
 use Rattle.fairness.proofs.Cycles.{chain_empty, resumed, waiting_cycles, bus_nearer}
-use Rattle.fairness.proofs.Calls.{OfRule, Right, read, head_after, cycles, read_follows, read_total, fixed_picks, fixed_total, BusRight, next_token, bus_cycles}
+use Rattle.fairness.proofs.Calls.{run_picks, OfRule, Right, read, head_after, cycles, read_follows, read_total, fixed_picks, fixed_total, BusRight, next_token, bus_cycles}
 use Rattle.fairness.proofs.Sharpness.{Ruling, picks_rule, longest_wait, no_sooner, other_once, bus_no_sooner}
 use Rattle.fairness.proofs.Rulings.{engines_ruling, messages_ruling, packed_ruling, rule_ruling}
 
@@ -81,7 +82,7 @@ module _ (test : Step → Bool) (of : OfRule test) (s : State) (w : ℕ) where
       }
 
 pub picks_bounded : PicksBounded
-picks_bounded s w waiting some wait = bounded (any_picks by_rule.is) (λ k t. t) s w waiting some wait
+picks_bounded s some w waiting wait = bounded (any_picks by_rule.is) (λ k t. t) s w waiting some wait
 
 -- k cycles of m each that are fewer than n in all are fewer than n / m rounded up
 below_ceiling : (n m k : ℕ) → 0 < m → k * m < n → k < ceiling n m
@@ -112,7 +113,7 @@ module _ (k : Kind) (f : Ruling k) where
       chain_empty (Right s.width test) (head_after s.width) s.head (λ m r. none (served_state s m r)) (served (run s steps)) (cycles test of s steps pass)
     where
       served_state : (s : State) (m : Made) → Right s.width (picks_of s.picks k.is) s.head m → k.Serves s
-      served_state s m r = f.serves s r.by (ListsLaws.both _ _ r.pass).0 (rw (fixed_picks r) at r.zero)
+      served_state s m r = f.serves s r.by (ListsLaws.both _ _ r.pass).0 (rw (fixed_picks k.is r) at r.zero)
 
   module _ (s : State) (serves : k.Serves s) where
     -- N/m rounded up of its cycles make N picks or more, and fewer do not
@@ -178,6 +179,36 @@ module _ (k : Kind) (f : Ruling k) where
     holds = in_time s serves _ (omega arith);
     least = λ limit claim. least s serves limit (λ l. no_sooner k f s serves limit l claim);
   }
+
+-- a wait in a list of calls with one pick count is one in a list of calls with any
+module _ (s : State) (m : ℕ) where
+  any_pass : (steps : List Step) → Each (picks_of m by_rule.is) steps → Each (any_picks by_rule.is) steps
+  any_pass [] pass = tt
+  any_pass (k ∷ ks) pass = ((ListsLaws.both _ _ pass.0).0, any_pass ks pass.1)
+
+  any_wait : (w : ℕ) (waiting : List Made) → WaitOf by_rule (with_picks s m) w waiting → Wait (any_picks by_rule.is) s w waiting
+  any_wait w waiting wait = record {
+    steps = wait.steps;
+    pass = any_pass wait.steps wait.pass;
+    past = wait.past;
+    rest = wait.rest;
+    are = ap served (sym (run_picks s m wait.steps)) ∙ wait.are;
+    asking = wait.asking;
+    ungranted = wait.ungranted;
+  }
+
+pub picks_no_fewer : PicksNoFewer
+picks_no_fewer s serves = record {
+  holds = picks_bounded s (omega (arith, (rule_ruling.allows (with_picks s 1) serves).some));
+  least = λ limit claim.
+      ListsLaws.split (ltb limit s.width)
+      (λ t.
+      absurd (longest_wait by_rule rule_ruling (with_picks s 1) serves limit (omega (arith, ltb-true limit s.width t))
+      (λ w waiting wait.
+      let r = wait_follows (picks_of 1 by_rule.is) (picks_rule by_rule rule_ruling 1) (with_picks s 1) w waiting wait in
+      omega (arith, (claim w waiting (any_wait s 1 w waiting wait)).short, fixed_total s.width 1 by_rule.is waiting r.0 r.1))))
+      (λ f. omega (arith, ltb-false limit s.width f));
+}
 
 pub bounded_waiting : BoundedWaiting by_engines
 bounded_waiting = bounded_waits by_engines engines_ruling

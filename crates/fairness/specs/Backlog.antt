@@ -6,7 +6,7 @@ use Rattle.rules.specs.Lists.{count}
 use Rattle.arbiter.specs.declared.State.{State}
 use Rattle.backlog.specs.Calls.{arrived}
 use Rattle.calls.specs.Calls.{Cycle, Made, ran, Step, run, served, asks, granted}
-use Rattle.calls.specs.Messages.{Finds}
+use Rattle.calls.specs.Messages.{has_messages, Finds}
 use Rattle.fairness.specs.Kinds.{with_messages}
 use Rattle.fairness.specs.Waiting.{Of, Least, ceiling}
 
@@ -16,7 +16,7 @@ has_message w m = ltb 0 (get_or (arrived m.messages.waiting m.messages.arrivals)
 
 -- it asks exactly if it has one
 abbrev pub MessageAsks : Type 0
-MessageAsks = (s : State) (c : Cycle) (w : ℕ) → with_messages.is c ≡ true → asks w (ran s c) ≡ has_message w (ran s c)
+MessageAsks = (s : State) (c : Cycle) (w : ℕ) → has_messages c ≡ true → asks w (ran s c) ≡ has_message w (ran s c)
 
 -- In a list in which each served cycle finds the waiting numbers that the one before left, a message is never lost: a station that has
 -- one in a cycle is granted within this many cycles, that one included, unless the list ends sooner

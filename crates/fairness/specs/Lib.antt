@@ -2,3 +2,4 @@ pub mod Cycles
 pub mod Kinds
 pub mod Waiting
 pub mod Backlog
+pub mod Turns

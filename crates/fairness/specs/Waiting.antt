@@ -6,8 +6,9 @@ use Rattle.std.specs.List.{sum_by}
 use Rattle.rules.specs.Bus as BusRule
 use Rattle.rules.specs.Lists.{count}
 use Rattle.arbiter.specs.declared.State.{State}
+use Rattle.arbiter.specs.Answers.{with_picks}
 use Rattle.calls.specs.Calls.{Cycle, bus_cycle, cycle_that, Made, Step, run, served, asks, granted, Each}
-use Rattle.fairness.specs.Kinds.{Kind, by_rule, on_bus, any_picks, picks_of}
+use Rattle.fairness.specs.Kinds.{Kind, SomeServes, by_rule, on_bus, any_picks, picks_of}
 
 -- a list of a kind from the state s: all its calls are of the kind, and have the state's pick count
 abbrev pub Of : Kind → State → List Step → Type 0
@@ -22,7 +23,7 @@ pub record Least (claim : ℕ → Type 0) (k : ℕ) : Type 0 where
 abbrev pub OneLeast : Type 0
 OneLeast = (test : ℕ → Bool) (j k : ℕ) → Least (λ n. test n ≡ true) j → Least (λ n. test n ≡ true) k → j ≡ k
 
--- A state that nothing of the kind serves gives only refusals, and nothing is then counted
+-- From a state that the kind does not serve every cycle is refused, and nothing is then counted
 abbrev pub UnservedRefused : Kind → Type 0
 UnservedRefused k = (s : State) (steps : List Step) → Of k s steps → (k.Serves s → ⊥) → served (run s steps) ≡ []
 
@@ -37,15 +38,22 @@ pub record Wait (test : Step → Bool) (s : State) (w : ℕ) (waiting : List Mad
   pub asking : Each (asks w) waiting
   pub ungranted : count (granted w) waiting ≡ 0
 
--- what is promised of a wait of n stations: the pick counts add up to less than n, and nobody is granted twice
-pub record FewPicks (n : ℕ) (waiting : List Made) : Type 0 where
-  pub short : sum_by (λ m. m.given.picks) waiting < n
+-- the pick counts of a wait add up to less than the limit, and nobody is granted twice in it
+pub record FewPicks (limit : ℕ) (waiting : List Made) : Type 0 where
+  pub short : sum_by (λ m. m.given.picks) waiting < limit
   pub once : (v : ℕ) → count (granted v) waiting ≤ 1
 
--- it is promised whatever the pick count of each cycle, and whichever of the kinds each is of that grant by the round-robin rule
+-- so it is in every list from the state s of cycles by the round-robin rule, each with a pick count of its own
+abbrev pub PicksBelow : State → ℕ → Type 0
+PicksBelow s limit = (w : ℕ) (waiting : List Made) → Wait (any_picks by_rule.is) s w waiting → FewPicks limit waiting
+
+-- They add up to less than N
 abbrev pub PicksBounded : Type 0
-PicksBounded =
-    (s : State) (w : ℕ) (waiting : List Made) → 0 < s.width → Wait (any_picks by_rule.is) s w waiting → FewPicks s.width waiting
+PicksBounded = (s : State) → 0 < s.width → PicksBelow s s.width
+
+-- and with no smaller number would that be true, where some engine serves the state with one pick
+abbrev pub PicksNoFewer : Type 0
+PicksNoFewer = (s : State) → SomeServes (with_picks s 1) → Least (PicksBelow s) s.width
 
 -- N/m rounded up
 abbrev pub ceiling : ℕ → ℕ → ℕ

@@ -1,9 +1,11 @@
-//! The wait rule, over every list of calls, from any state, whoever asks. No function here does anything: its clause is a theorem, stated in
-//! `specs/Waiting.antt` and the files beside it.
+//! The wait rule, over every list of calls, from any state, whoever asks. A list has cycles of one kind, refused ones too, and between them
+//! calls that write an image or a snapshot. No function here does anything: its clause is a theorem, stated in `specs/Waiting.antt` and the
+//! files beside it.
 ghost use Rattle.fairness.specs.Backlog.{BacklogGrantedInTime, MessageAsks};
 ghost use Rattle.fairness.specs.Cycles.{WaitingCycles};
 ghost use Rattle.fairness.specs.Kinds.{by_engines, by_rule, on_bus, packed, with_messages};
-ghost use Rattle.fairness.specs.Waiting.{BoundedWaiting, BusBoundedWaiting, GrantedInTime, NotTwice, OneLeast, PicksBounded, UnservedRefused};
+ghost use Rattle.fairness.specs.Turns.{TurnsOfEngines};
+ghost use Rattle.fairness.specs.Waiting.{BoundedWaiting, BusBoundedWaiting, GrantedInTime, NotTwice, OneLeast, PicksBounded, PicksNoFewer, UnservedRefused};
 
 /// A station that asks and is not granted waits for fewer than N/m rounded up served cycles, and no smaller number would do: calls by scan, tree, thermometer arbiter and Kogge-Stone arbiter, in any mixture.
 pub fn bounded_waiting()
@@ -21,7 +23,7 @@ pub fn granted_in_time()
     ensures { GrantedInTime by_engines }
 {}
 
-/// A state that no engine serves gives refusals alone.
+/// From a state that no engine serves every cycle is refused.
 #[tactic(auto, using(crate::proofs::Waiting::unserved_refused))]
 pub fn unserved_refused()
     ensures { UnservedRefused by_engines }
@@ -43,7 +45,7 @@ pub fn mixed_granted_in_time()
     ensures { GrantedInTime by_rule }
 {}
 
-/// A state that no engine serves gives refusals alone in such a mixture.
+/// From a state that no engine serves every cycle of such a mixture is refused.
 #[tactic(auto, using(crate::proofs::Waiting::mixed_unserved_refused))]
 pub fn mixed_unserved_refused()
     ensures { UnservedRefused by_rule }
@@ -52,6 +54,17 @@ pub fn mixed_unserved_refused()
 /// Whatever the pick count of each cycle of such a mixture: the pick counts of a wait add up to less than N, and nobody is granted twice.
 pub fn picks_bounded()
     ensures { PicksBounded }
+{}
+
+/// With no number smaller than N would that be true.
+pub fn picks_no_fewer()
+    ensures { PicksNoFewer }
+{}
+
+/// The packed scan and cycles with messages waiting take the turns of the engines: for each list of cycles of such a mixture there is a list of cycles by engines alone with the same turns.
+#[tactic(auto, using(crate::proofs::Turns::turns_of_engines))]
+pub fn turns_of_engines()
+    ensures { TurnsOfEngines }
 {}
 
 /// The packed scan's waits have the same bound, and no smaller number would do.
@@ -72,7 +85,7 @@ pub fn packed_granted_in_time()
     ensures { GrantedInTime packed }
 {}
 
-/// A state that the packed scan does not serve gives refusals alone.
+/// From a state that the packed scan does not serve every cycle by it is refused.
 #[tactic(auto, using(crate::proofs::Waiting::packed_unserved_refused))]
 pub fn packed_unserved_refused()
     ensures { UnservedRefused packed }
@@ -100,7 +113,7 @@ pub fn backlog_granted_in_time()
     ensures { BacklogGrantedInTime }
 {}
 
-/// With messages waiting too, a state that no engine serves gives refusals alone.
+/// From such a state every cycle with messages waiting, too, is refused.
 #[tactic(auto, using(crate::proofs::Waiting::backlog_unserved_refused))]
 pub fn backlog_unserved_refused()
     ensures { UnservedRefused with_messages }
@@ -112,7 +125,7 @@ pub fn bus_bounded_waiting()
     ensures { BusBoundedWaiting }
 {}
 
-/// A state that the bus does not serve gives refusals alone.
+/// From a state that the bus does not serve every cycle on the bus is refused.
 #[tactic(auto, using(crate::proofs::Waiting::bus_unserved_refused))]
 pub fn bus_unserved_refused()
     ensures { UnservedRefused on_bus }

@@ -36,12 +36,14 @@ pub struct KoggeStone(pub State);
 impl Arbiter for KoggeStone {
     ghost questions = { Questions.state_questions };
 
-    ghost state_of = { λ arbiter. arbiter.0 };
-
     // Asks 1, 3 and 4.
     fn ask(state: &State) -> Verdict {
         question::state(state)
     }
+}
+
+impl RoundRobin for KoggeStone {
+    ghost state_of = { λ arbiter. arbiter.0 };
 
     fn state(&self) -> &State {
         &self.0
@@ -50,9 +52,7 @@ impl Arbiter for KoggeStone {
     fn settle(&mut self, decided: Result<Decision, Refusal>) -> Result<Granted, Refusal> {
         self.0.settle(decided)
     }
-}
 
-impl RoundRobin for KoggeStone {
     // Counts by the network and grants by the counts. A small cycle does not clear the large array.
     fn grant(cycle: &mut ServedCycle<'_>) -> Decision {
         if cycle.requests.len() < FEW_COUNTS {

@@ -25,16 +25,16 @@ impl OneHot {
     pub fn read(mut self, image: &[u8]) -> Answer<()>
         ensures { result ≡ OneHotCalls.read self.0 image.now }
     {
-        let outcome = self.turn(image);
+        let outcome = self.take_head(image);
         Answer {
             state: self.0,
             outcome,
         }
     }
 
-    // The same in place.
+    // Takes the head that an image shows into the state, in place.
     #[tactic(auto, using(crate::specs::Calls::Laws::read_served, crate::specs::Calls::Laws::read_refused))]
-    fn turn(&mut self, image: &[u8]) -> Verdict
+    fn take_head(&mut self, image: &[u8]) -> Verdict
         ensures value { result ≡ (OneHotCalls.read self.old.0 image.now).outcome }
         ensures state_after { self.new.0 ≡ (OneHotCalls.read self.old.0 image.now).state }
     {

@@ -33,25 +33,16 @@ pub struct PackedScan(pub State);
 impl Arbiter for PackedScan {
     ghost questions = { PackedCalls.state_questions };
 
-    ghost state_of = { λ scan. scan.0 };
-
     // Asks 1, 3 and 4; two picks are refused by 3.
     fn ask(state: &State) -> Verdict {
         question::state(state)
     }
-
-    fn state(&self) -> &State {
-        &self.0
-    }
-
-    fn settle(&mut self, decided: Result<Decision, Refusal>) -> Result<Granted, Refusal> {
-        self.0.settle(decided)
-    }
 }
 
 impl PackedScan {
-    /// The questions of a cycle of this state, and what it decides where they pass; then it writes the grant of these requests, both
-    /// packed. Asks 1, 3, 4, 5, 6 and 14. The state stays: `advance` and `cycle` take what is decided into it.
+    /// Decides a cycle: writes the grant of these requests, both packed, and answers with what is granted and the next head. The state
+    /// stays as it is. Asks 1, 3, 4, 5, 6 and 14, in this order; refused, it leaves the grants as they were. With 11 stations, head 8 and
+    /// stations 0 and 3 asking, request bytes 9 0, it grants 0, grant bytes 1 0, and answers with count 1, more pending and next head 1.
     #[tactic(auto, using(crate::specs::Calls::Laws::ready))]
     pub fn arbitrate(state: &State, requests: &[u8], grants: &mut [u8]) -> Result<Decision, Refusal>
         ensures value { Answers.answered state.now result ≡ (PackedCalls.cycle state.now requests.now grants.old).answer }
@@ -62,9 +53,10 @@ impl PackedScan {
         Ok(grant(state.width, state.head, requests, grants))
     }
 
-    /// One cycle, in place: writes the grant of these requests, both packed, takes the next head, and answers with the count of grants and
-    /// whether more are pending. Asks 1, 3, 4, 5, 6 and 14. With 11 stations, head 8 and stations 0 and 3 asking, requests 9 0, it grants
-    /// 0, grants 1 0, the next head is 1, and more are pending.
+    /// A cycle in place: writes the grant of these requests, both packed, takes the next head into the state, and answers with the count of
+    /// grants and whether more are pending. Asks 1, 3, 4, 5, 6 and 14, in this order; refused, it leaves state and grants as they were.
+    /// With 11 stations, head 8 and stations 0 and 3 asking, request bytes 9 0, it grants 0, grant bytes 1 0, leaves head 1, and answers
+    /// with count 1 and more pending.
     pub fn advance(&mut self, requests: &[u8], grants: &mut [u8]) -> Result<Granted, Refusal>
         ensures value { result ≡ (PackedCalls.cycle self.old.0 requests.now grants.old).answer.outcome }
         ensures state_after { self.new.0 ≡ (PackedCalls.cycle self.old.0 requests.now grants.old).answer.state }
@@ -74,7 +66,9 @@ impl PackedScan {
         self.0.settle(decided)
     }
 
-    /// The same with the state handed in and back.
+    /// A cycle by value: the same as `advance`, with the state handed in and back. Asks 1, 3, 4, 5, 6 and 14, in this order; refused, it
+    /// hands back the state that it was given, and leaves the grants as they were. With 11 stations, head 8 and stations 0 and 3 asking,
+    /// request bytes 9 0, it grants 0, grant bytes 1 0, and answers with a state of head 1, count 1 and more pending.
     pub fn cycle(mut self, requests: &[u8], grants: &mut [u8]) -> Answer<Granted>
         ensures value { result ≡ (PackedCalls.cycle self.0 requests.now grants.old).answer }
         ensures grants_after { grants.new ≡ (PackedCalls.cycle self.0 requests.now grants.old).written }

@@ -26,12 +26,14 @@ struct Walk {
 impl Arbiter for Scan {
     ghost questions = { Questions.state_questions };
 
-    ghost state_of = { λ scan. scan.0 };
-
     // Asks 1, 3 and 4.
     fn ask(state: &State) -> Verdict {
         question::state(state)
     }
+}
+
+impl RoundRobin for Scan {
+    ghost state_of = { λ scan. scan.0 };
 
     fn state(&self) -> &State {
         &self.0
@@ -40,9 +42,7 @@ impl Arbiter for Scan {
     fn settle(&mut self, decided: Result<Decision, Refusal>) -> Result<Granted, Refusal> {
         self.0.settle(decided)
     }
-}
 
-impl RoundRobin for Scan {
     // Walks the stations once round: from the head to the last, and then from 0 up to the head.
     fn grant(cycle: &mut ServedCycle<'_>) -> Decision {
         let width = cycle.requests.len();

@@ -1,5 +1,6 @@
-//! Searching bytes: the highest of them, the first that is not 0, and the first 1. A search goes on from a place and answers with a place
-//! of the whole buffer, so it takes both.
+//! Searches of a buffer's bytes, by which the arbiters find whom to grant and what to refuse: the highest byte, and the first that is 1,
+//! is not 0, or is above a limit. A search for the first takes the whole buffer and a place to start from, and answers with a place of
+//! the whole buffer, so that the next one can go on behind it.
 #![tactic(auto)]
 
 ghost use Rattle.std.specs.Prelude.{◌≡◌, ◌+◌, ◌/◌, ◌≤◌, ◌<◌, ltb, length, take, drop};
@@ -8,8 +9,8 @@ ghost use Rattle.search.specs.Places as Places;
 ghost use Rattle.search.specs.Words as Words;
 
 /// The highest byte, or 0 where there is none: of 3 7 0 it is 7.
-// It reads every byte, so that many are compared at once. A fold from 0: the library's `max`
-// begins with the first byte, and what that leaves over at the end made a cycle of the scan a fifth longer and more.
+// It reads every byte, so that many are compared at once. A fold from 0: the library's `max` begins with the first byte, and what that
+// leaves over at the end made a cycle of the scan a fifth longer and more.
 pub fn highest(bytes: &[u8]) -> u8
     ensures { result ≡ Places.highest bytes.now }
 {
@@ -17,8 +18,7 @@ pub fn highest(bytes: &[u8]) -> u8
 }
 
 /// The place of the first 1 from `from` on, or none: in 0 2 1 1, from 0 on, it is 2.
-// Each search goes on behind the place that the last one found, so no range counts
-// the steps.
+// Each search goes on behind the place that the last one found, so no range counts the steps.
 pub fn first_one(from: usize, bytes: &[u8]) -> Option<usize>
     ensures { result ≡ Places.first (Places.ones from bytes.now) }
 {
@@ -33,9 +33,9 @@ pub fn first_one(from: usize, bytes: &[u8]) -> Option<usize>
 }
 
 /// The place of the first byte from `from` on that is not 0, or none: in 0 2 1 1, from 0 on, it is 1.
-// It looks at eight bytes at a time, and at the last few one by
-// one: the index goes by eights, and what is left begins where it ends. With `as_chunks` and `position` in place of the index a cycle of
-// the scan, which searches once for each grant, took a fifth to a third longer; so did, tried in Rust, a `while let` by `first_chunk`.
+// It looks at eight bytes at a time, and at the last few one by one: the index goes by eights, and what is left begins where it ends.
+// With `as_chunks` and `position` in place of the index a cycle of the scan, which searches once for each grant, took a fifth to a third
+// longer; so did, tried in Rust, a `while let` by `first_chunk`.
 pub fn first_nonzero(from: usize, bytes: &[u8]) -> Option<usize>
     ensures { result ≡ Places.first (Places.nonzero from bytes.now) }
 {

@@ -41,7 +41,7 @@ token s = start s.head
 -- what a cycle decides, apart from any state: how many are granted, the next token, and whether more are pending
 abbrev pub decision : ℕ → ℕ → Bool → (ℕ → Bool) → Decision
 decision n t ack asks =
-    let gs = BusRule.granted n t asks in record { granted = record { count = length gs; more = more n asks gs }; next = Some (BusRule.next n t ack asks) }
+    let gs = BusRule.granted n t asks in record { count = length gs; next = Some (BusRule.next n t ack asks); more = more n asks gs }
 
 -- the answer of a served cycle
 abbrev pub answer : State → List ℕ → ℕ → Answer Granted

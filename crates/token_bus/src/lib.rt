@@ -28,25 +28,16 @@ pub struct TokenBus(pub State);
 impl Arbiter for TokenBus {
     ghost questions = { BusCalls.state_questions };
 
-    ghost state_of = { λ bus. bus.0 };
-
     // Asks 1, 3 and 4, and 4 refuses a state without a token: two picks are refused by 3, and of 4 stations token 4 by 4.
     fn ask(state: &State) -> Verdict {
         question::state(state)
     }
-
-    fn state(&self) -> &State {
-        &self.0
-    }
-
-    fn settle(&mut self, decided: Result<Decision, Refusal>) -> Result<Granted, Refusal> {
-        self.0.settle(decided)
-    }
 }
 
 impl TokenBus {
-    /// The questions of a cycle of this state, and what it decides where they pass; then it writes the grant of these requests. Asks 1, 3,
-    /// 4, 5, 6, 8 and 9. The state stays: `advance` and `cycle` take what is decided into it.
+    /// Decides a cycle: writes the grant of these requests, and answers with what is granted and the next token. The state stays as it is.
+    /// Asks 1, 3, 4, 5, 6, 8 and 9, in this order; refused, it leaves the grants as they were. With 4 stations, token 2 and stations 0 and
+    /// 1 asking it grants 0, and answers with count 1, more pending, and next token 3 where acknowledge is 1, 2 where it is 0.
     // Where the highest byte of the requests is 0 nobody asks, and the token stays.
     #[tactic(auto, using(crate::specs::Calls::Laws::allowed))]
     pub fn arbitrate(
@@ -74,9 +65,10 @@ impl TokenBus {
         Ok(grant(&mut cycle, acknowledge == 1))
     }
 
-    /// One cycle, in place: writes the grant of these requests, takes the next token, and answers with the count of grants and whether more
-    /// are pending. Asks 1, 3, 4, 5, 6, 8 and 9. With 4 stations, token 2 and stations 0 and 1 asking it grants 0, and more are pending;
-    /// the next token is 3 where acknowledge is 1, and 2 where it is 0.
+    /// A cycle in place: writes the grant of these requests, takes the next token into the state, and answers with the count of grants and
+    /// whether more are pending. Asks 1, 3, 4, 5, 6, 8 and 9, in this order; refused, it leaves state and grants as they were. With 4
+    /// stations, token 2 and stations 0 and 1 asking it grants 0, leaves token 3 where acknowledge is 1 and 2 where it is 0, and answers
+    /// with count 1 and more pending.
     pub fn advance(
         &mut self,
         requests: &[u8],
@@ -91,7 +83,9 @@ impl TokenBus {
         self.0.settle(decided)
     }
 
-    /// The same with the state handed in and back.
+    /// A cycle by value: the same as `advance`, with the state handed in and back. Asks 1, 3, 4, 5, 6, 8 and 9, in this order; refused, it
+    /// hands back the state that it was given, and leaves the grants as they were. With 4 stations, token 2, stations 0 and 1 asking and
+    /// acknowledge 1 it grants 0, and answers with a state of token 3, count 1 and more pending.
     pub fn cycle(mut self, requests: &[u8], grants: &mut [u8], acknowledge: u8) -> Answer<Granted>
         ensures value { result ≡ (BusCalls.cycle self.0 requests.now grants.old acknowledge).answer }
         ensures grants_after { grants.new ≡ (BusCalls.cycle self.0 requests.now grants.old acknowledge).written }
@@ -121,8 +115,9 @@ fn grant(cycle: &mut ServedCycle<'_>, acknowledged: bool) -> Decision
     cycle.grants[station] = 1;
     let more = cycle.pending(1);
     Decision {
-        granted: Granted { count: 1, more },
+        count: 1,
         next: Some(pass(width, token, acknowledged)),
+        more,
     }
 }
 

@@ -74,8 +74,7 @@ impl Progress {
         self.number += 1;
     }
 
-    // The cycle of one line, with a grant buffer of zeros. Question 5 lets a line pass that has as many characters as there are
-    // stations; on the bus, a space and the acknowledge character after them. Only the tree asks about the node buffer.
+    // The cycle of one line in place, with a grant buffer of zeros: decides it, and takes the next head into the state.
     #[tactic(auto, using(crate::specs::Cycles::Laws::cycle_width), unfolding(crate::specs::Cycles::cycle))]
     fn advance(&mut self, line: &[u8], grants: &mut [u8]) -> Result<Granted, Refusal>
         requires { grants.old ≡ replicate self.old.state.width 0 }
@@ -90,7 +89,8 @@ impl Progress {
     }
 }
 
-// What the cycle of one line decides, or what refuses it.
+// Decides the cycle of one line, with a grant buffer of zeros; the state stays. Question 5 lets a line pass that has as many characters
+// as there are stations; on the bus, a space and the acknowledge character after them. Only the tree asks about the node buffer.
 #[tactic(auto, unfolding(crate::specs::Cycles::cycle))]
 fn decide(kind: Kind, state: &State, line: &[u8], grants: &mut [u8]) -> Result<Decision, Refusal>
     requires wide { state.now.width ≤ max_width }

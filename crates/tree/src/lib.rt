@@ -30,26 +30,17 @@ pub struct Tree(pub State);
 impl Arbiter for Tree {
     ghost questions = { TreeCalls.state_questions };
 
-    ghost state_of = { λ tree. tree.0 };
-
     // Asks 1, 2, 3 and 4: widths 1 and 6 are refused by 2, two picks by 3.
     fn ask(state: &State) -> Verdict {
         question::state(state)
     }
-
-    fn state(&self) -> &State {
-        &self.0
-    }
-
-    fn settle(&mut self, decided: Result<Decision, Refusal>) -> Result<Granted, Refusal> {
-        self.0.settle(decided)
-    }
 }
 
 impl Tree {
-    /// The questions of a cycle of this state, and what it decides where they pass; then it writes the grants of these requests, and the
-    /// tree of the requests and the head. Asks 1, 2, 3, 4, 5, 6, 7 and 8. The state stays: `advance` and `cycle` take what is decided into
-    /// it.
+    /// Decides a cycle: writes the grants of these requests and the tree of the requests and the head, and answers with what is granted and
+    /// the next head. The state stays as it is. Asks 1, 2, 3, 4, 5, 6, 7 and 8, in this order; refused, it leaves both buffers as they
+    /// were. With 4 stations, head 2 and stations 0 and 1 asking it grants 0, writes the nodes 0 2 1 2 1 1 2 0, and answers with count 1,
+    /// more pending and next head 1.
     #[tactic(auto, using(crate::specs::Calls::Laws::ready, crate::specs::Calls::Laws::tree_grants, crate::specs::Calls::Laws::tree_values), unfolding(crate::specs::Calls::cycle))]
     pub fn arbitrate(
         state: &State,
@@ -80,9 +71,10 @@ impl Tree {
         Ok(decide(width, state.head, count, granted, more))
     }
 
-    /// One cycle, in place: writes the grants of these requests and the tree of the requests and the head, takes the next head, and answers
-    /// with the count of the grants and whether more are pending. Asks 1, 2, 3, 4, 5, 6, 7 and 8. With 4 stations, head 2 and stations 0
-    /// and 1 asking it grants 0, the next head is 1, more are pending, and the nodes are 0 2 1 2 1 1 2 0.
+    /// A cycle in place: writes the grants of these requests and the tree of the requests and the head, takes the next head into the state,
+    /// and answers with the count of the grants and whether more are pending. Asks 1, 2, 3, 4, 5, 6, 7 and 8, in this order; refused, it
+    /// leaves the state and both buffers as they were. With 4 stations, head 2 and stations 0 and 1 asking it grants 0, writes the nodes
+    /// 0 2 1 2 1 1 2 0, leaves head 1, and answers with count 1 and more pending.
     pub fn advance(
         &mut self,
         requests: &[u8],
@@ -98,7 +90,9 @@ impl Tree {
         self.0.settle(decided)
     }
 
-    /// The same with the state handed in and back.
+    /// A cycle by value: the same as `advance`, with the state handed in and back. Asks 1, 2, 3, 4, 5, 6, 7 and 8, in this order; refused,
+    /// it hands back the state that it was given, and leaves both buffers as they were. With 4 stations, head 2 and stations 0 and 1 asking
+    /// it grants 0, writes the nodes 0 2 1 2 1 1 2 0, and answers with a state of head 1, count 1 and more pending.
     pub fn cycle(mut self, requests: &[u8], grants: &mut [u8], nodes: &mut [u8]) -> Answer<Granted>
         ensures value { result ≡ (TreeCalls.cycle self.0 requests.now grants.old nodes.old).answer }
         ensures grants_after { grants.new ≡ (TreeCalls.cycle self.0 requests.now grants.old nodes.old).grants }

@@ -164,7 +164,7 @@ module _ (n t : ℕ) (requests : List ℕ) (station : t < n) where
   idle_decides ack e =
       let none = first_none granted e in
       rw (BusLaws.next_idle n t ack asks none, none)
-      (ap (λ b. record { granted = record { count = 0; more = b }; next = Some t }) (sym (none_more n 1 (Some t) asks (omega arith) (omega (arith, head)) none)))
+      (ap (λ b. record { count = 0; next = Some t; more = b }) (sym (none_more n 1 (Some t) asks (omega arith) (omega (arith, head)) none)))
 
   pub idle_grants : first granted ≡ None → replicate n 0 ≡ BusRule.grants n t asks
   idle_grants e = ListsLaws.marks_none n ∙ sym (BusLaws.grants_marks n t asks ∙ ap (marks n) (first_none granted e))
@@ -192,9 +192,9 @@ module _ (n t : ℕ) (requests : List ℕ) (station : t < n) where
 
     pub granted_decides : (ack : Bool) {m : ℕ} {new : List ℕ} {b : Bool} → length requests ≡ n → Bits requests → m ≡ 1 → new ≡ set (replicate n 0) w 1
         → b ≡ (eqb 1 m && not (pointwise nat_eq requests new))
-        → record { granted = record { count = 1; more = b }; next = Some (cond ack ((t + 1) % n) t) } ≡ decision n t ack asks
+        → record { count = 1; next = Some (cond ack ((t + 1) % n) t); more = b } ≡ decision n t ack asks
     granted_decides ack long bits one made e =
-        rw (e ∙ pending long bits one made, only) (ap (λ (k : ℕ). record { granted = record { count = 1; more = more n asks (w ∷ []) }; next = Some k }) (to ack))
+        rw (e ∙ pending long bits one made, only) (ap (λ (k : ℕ). record { count = 1; next = Some k; more = more n asks (w ∷ []) }) (to ack))
       where
         to : (b : Bool) → cond b ((t + 1) % n) t ≡ BusRule.next n t b asks
         to true = sym (BusLaws.next_acknowledged n t asks (omega (arith, ap length only)))

@@ -1,10 +1,24 @@
 -- `advance` meets its contract: where a question refuses nothing is done, and where they pass no number passes the most.
 -- Assumes nothing.
-use Rattle.std.proofs.Common.{rules, arith, ◌≡◌, ◌∙◌, sym, ap, Err}
+use Rattle.std.proofs.Common.{rules, arith, ◌≡◌, ◌∙◌, refl, sym, ap, Err}
+use mir.Syntax.{Opd}
 use Rattle.arbiter.specs.Answers.{refused}
 use Rattle.backlog.specs.Calls.{BacklogEffect, cycle}
 use Rattle.backlog.specs.Calls.Laws.{refused_cycle, lent_passed}
+use Rattle.tracer.specs.Trace.{Trace, trace, end, computes, runs, leaves, either, tries_result}
+use Rattle.backlog.proofs.Backlog.advance.Code as code
 use Rattle.backlog.proofs.Backlog.advance.Goals as goal
+
+-- the numbers are gone over once, and the engine decides once
+abbrev received : Trace
+received = runs "backlog::receive" (runs "engines::Engine::arbitrate" end)
+
+-- Read off the code: a cycle asks, goes over the numbers, runs the engine and takes what it grants, each once, whatever the room
+one_engine : (on : Opd) × (trace (code.function).body end
+    ≡ runs "backlog::question::cycle"
+    (tries_result on
+    (computes (either received received (runs "backlog::take" (runs "arbiter::State::settle" (leaves end)))))))
+one_engine = (_, refl)
 
 pub receive-requests-requires-clause-fitting : goal.receive-requests-requires-clause-fitting
 receive-requests-requires-clause-fitting c =

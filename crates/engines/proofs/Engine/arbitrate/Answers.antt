@@ -11,19 +11,19 @@ engine = copy (place 1 (variant 0 ∷ field 0 ∷ []))
 
 -- what the arbiters of the round-robin rule have alike, of one of them
 abbrev arbitrated : Symbol → Symbol → Symbol → Symbol → Trace
-arbitrated grant ask state settle =
-    calls (named "arbiter::engine::RoundRobin::arbitrate" (grant ∷ ask ∷ state ∷ settle ∷ "core::clone::Clone+copy::clone" ∷ [])) end
+arbitrated state settle grant ask =
+    calls (named "arbiter::engine::RoundRobin::arbitrate" (state ∷ settle ∷ grant ∷ ask ∷ "core::clone::Clone+copy::clone" ∷ [])) end
 
 -- Read off the code: one call, of the named engine's arbitration
 one_engine : trace (code.function).body end
     ≡ chooses engine
     (case (0 ∷ [])
-    (arbitrated "scan::ScanRoundRobin::grant" "scan::ScanArbiter::ask" "scan::ScanArbiter::state" "scan::ScanArbiter::settle")
+    (arbitrated "scan::ScanRoundRobin::state" "scan::ScanRoundRobin::settle" "scan::ScanRoundRobin::grant" "scan::ScanArbiter::ask")
     (case (1 ∷ []) (runs "tree::Tree::arbitrate" end)
     (case (2 ∷ [])
-    (arbitrated "thermometer::ThermometerRoundRobin::grant" "thermometer::ThermometerArbiter::ask" "thermometer::ThermometerArbiter::state" "thermometer::ThermometerArbiter::settle")
+    (arbitrated "thermometer::ThermometerRoundRobin::state" "thermometer::ThermometerRoundRobin::settle" "thermometer::ThermometerRoundRobin::grant" "thermometer::ThermometerArbiter::ask")
     (case (3 ∷ [])
-    (arbitrated "kogge_stone::KoggeStoneRoundRobin::grant" "kogge_stone::KoggeStoneArbiter::ask" "kogge_stone::KoggeStoneArbiter::state" "kogge_stone::KoggeStoneArbiter::settle")
+    (arbitrated "kogge_stone::KoggeStoneRoundRobin::state" "kogge_stone::KoggeStoneRoundRobin::settle" "kogge_stone::KoggeStoneRoundRobin::grant" "kogge_stone::KoggeStoneArbiter::ask")
     end))))
     (leaves end)
 one_engine = refl

@@ -10,7 +10,7 @@ use Rattle.arbiter.proofs.engine.RoundRobin.advance.Goals as goal
 
 -- Read off the code: a cycle reads the state, decides once, and takes what is decided
 one_arbitration : trace (code.function).body end
-    ≡ calls (bound 1 1) (runs "arbiter::engine::RoundRobin::arbitrate" (calls (bound 1 2) (leaves end)))
+    ≡ calls (bound 0 0) (runs "arbiter::engine::RoundRobin::arbitrate" (calls (bound 0 1) (leaves end)))
 one_arbitration = refl
 
 pub returns : goal.returns

@@ -21,7 +21,7 @@ one_count : (on : Opd) × (on₂ : Opd) × (drops : List Symbol)
     (tries_result on₂
     (computes
     (either (calls (named "core::slice::edits::slice+T::fill" drops) (runs "arbiter::idle" (leaves end))) end
-    (calls (bound 0 0) (leaves end))))))))
+    (calls (bound 0 2) (leaves end))))))))
 one_count = (_, _, _, refl)
 
 pub returns-then-high-eq0 : goal.returns-then-high-eq0

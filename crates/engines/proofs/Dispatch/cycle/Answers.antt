@@ -1,0 +1,9 @@
+-- A cycle by value advances once.
+-- Assumes nothing.
+use Rattle.std.specs.Prelude.{◌≡◌, refl}
+use Rattle.tracer.specs.Trace.{trace, end, runs, leaves}
+use Rattle.engines.proofs.Dispatch.cycle.Code as code
+
+-- Read off the code: a cycle by value advances once
+one_advance : trace (code.function).body end ≡ runs "engines::Dispatch::advance" (leaves end)
+one_advance = refl
