@@ -59,7 +59,12 @@ pub fn first_nonzero(from: usize, bytes: &[u8]) -> Option<usize>
 pub fn first_above(limit: u8, from: usize, bytes: &[u8]) -> Option<usize>
     ensures { result ≡ Places.first (Places.places (ltb limit) from bytes.now) }
 {
-    (from..bytes.len()).find(|i| limit < bytes[*i])
+    for i in from..bytes.len() {
+        if limit < bytes[i] {
+            return Some(i);
+        }
+    }
+    None
 }
 
 // The eight bytes from `i` on as one number, the first of them lowest. The compiler makes one load of it. The library's `first_chunk`
