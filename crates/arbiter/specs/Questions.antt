@@ -8,7 +8,8 @@ use Rattle.arbiter.specs.declared.refusal.Buffer.{Buffer}
 use Rattle.arbiter.specs.declared.refusal.Buffer.TheVariants.{Requests}
 use Rattle.arbiter.specs.declared.refusal.Refusal.{Refusal}
 use Rattle.arbiter.specs.declared.refusal.Refusal.TheVariants.{Width, Picks, HeadRange, ReadLength, WriteLength, NotABit}
-use Rattle.search.specs.Places.{places}
+use Rattle.arbiter.specs.declared.question.RefusedReading.{RefusedReading}
+use Rattle.search.specs.Places.{places, highest}
 pub mod Laws
 pub mod Known
 
@@ -84,3 +85,21 @@ write_questions s stated size = state_questions s then write_length stated size
 -- those of a cycle with these requests and a grant buffer of this length, after those about its state: 5, 6 and 8
 abbrev pub cycle_questions : ℕ → List ℕ → ℕ → Verdict
 cycle_questions n requests size = read_length n (length requests) then write_length n size then bits Requests 0 requests
+
+-- a refusal before any byte is read: the highest byte is 0
+abbrev pub unread : Refusal → RefusedReading
+unread refusal = record { refusal = refusal; highest = 0 }
+
+-- what is said of bytes that have been read: the highest, whether a question about them passes or refuses
+abbrev pub with_highest : ℕ → Verdict → Result ℕ RefusedReading
+with_highest high (Ok _) = Ok high
+with_highest high (Err refusal) = Err (record { refusal = refusal; highest = high })
+
+-- 8 of all bytes, after questions that read none
+abbrev pub read : Verdict → Buffer → List ℕ → Result ℕ RefusedReading
+read (Ok _) buffer bytes = with_highest (highest bytes) (bits buffer 0 bytes)
+read (Err refusal) buffer bytes = Err (unread refusal)
+
+-- those of a cycle, with the highest byte of its requests
+abbrev pub cycle : ℕ → List ℕ → ℕ → Result ℕ RefusedReading
+cycle n requests size = read (read_length n (length requests) then write_length n size) Requests requests

@@ -1,9 +1,7 @@
 //! The questions that most calls ask, one function for each: `Ok` where a question passes, and else its refusal. A call asks those that
 //! concern it in their order, and the first that refuses decides. A question that one crate alone asks stands there.
-ghost use Rattle.std.specs.Prelude.{◌≡◌, Ok};
-ghost use Rattle.search.specs.Places.{highest};
+ghost use Rattle.std.specs.Prelude.{◌≡◌};
 ghost use Rattle.arbiter.specs.Questions as Questions;
-ghost use Rattle.arbiter.specs.Questions.{◌then◌};
 
 use crate::refusal::{Buffer, Refusal};
 use crate::{MAX_PICKS, MAX_WIDTH, State};
@@ -12,6 +10,33 @@ use search::{first_above, highest};
 
 /// What a question says.
 pub type Verdict = Result<(), Refusal>;
+
+/// A refusal of bytes that were to be read, with the highest of them, or 0 where a question refused before they were read. By `?` the
+/// refusal alone goes on.
+#[derive(Clone, Copy, Debug, PartialEq, Eq)]
+pub struct RefusedReading {
+    pub refusal: Refusal,
+    pub highest: u8,
+}
+
+impl From<Refusal> for RefusedReading {
+    ghost from_gives = { λ refusal reading. reading ≡ Questions.unread refusal };
+
+    fn from(refusal: Refusal) -> RefusedReading {
+        RefusedReading {
+            refusal,
+            highest: 0,
+        }
+    }
+}
+
+impl From<RefusedReading> for Refusal {
+    ghost from_gives = { λ reading refusal. refusal ≡ reading.refusal };
+
+    fn from(reading: RefusedReading) -> Refusal {
+        reading.refusal
+    }
+}
 
 /// The verdict of a question: yes passes, no refuses.
 pub fn refuse_unless(yes: bool, refusal: Refusal) -> Verdict
@@ -80,14 +105,17 @@ pub fn bits(buffer: Buffer, from: usize, bytes: &[u8]) -> Verdict
     Ok(())
 }
 
-/// Question 8 of all bytes, with the highest of them where it passes. A place is looked for only where the highest byte shows that
-/// there is one.
-pub fn read(buffer: Buffer, bytes: &[u8]) -> Result<u8, Refusal>
-    ensures { result ≡ (Questions.bits buffer 0 bytes.now then Ok (highest bytes.now)) }
+/// Question 8 of all bytes, with the highest of them: where it passes, and beside its refusal. A place is looked for only where the
+/// highest byte shows that there is one.
+pub fn read(buffer: Buffer, bytes: &[u8]) -> Result<u8, RefusedReading>
+    ensures { result ≡ Questions.read Questions.passed buffer bytes.now }
 {
     let high = highest(bytes);
     if 1 < high {
-        bits(buffer, 0, bytes)?;
+        bits(buffer, 0, bytes).map_err(|refusal| RefusedReading {
+            refusal,
+            highest: high,
+        })?;
     }
     Ok(high)
 }
@@ -109,10 +137,10 @@ pub fn write(state: &State, stated: usize, length: usize) -> Verdict
     write_length(stated, length)
 }
 
-/// Questions 5, 6 and 8 of a cycle, after those about its state, with the highest byte of the requests where they pass. Its grant
-/// buffer has `length` bytes.
-pub fn cycle(width: usize, requests: &[u8], length: usize) -> Result<u8, Refusal>
-    ensures { result ≡ (Questions.cycle_questions width requests.now length then Ok (highest requests.now)) }
+/// Questions 5, 6 and 8 of a cycle, after those about its state, with the highest byte of the requests: where they pass, and beside a
+/// refusal by 8. Beside one by 5 or 6 it is 0. The grant buffer has `length` bytes.
+pub fn cycle(width: usize, requests: &[u8], length: usize) -> Result<u8, RefusedReading>
+    ensures { result ≡ Questions.cycle width requests.now length }
 {
     read_length(width, requests.len())?;
     write_length(width, length)?;

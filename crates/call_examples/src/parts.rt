@@ -1,6 +1,7 @@
 // What the engines are made of, and the adder.
 use crate::{refused, state};
 use arbiter::engine::ServedCycle;
+use arbiter::question::RefusedReading;
 use arbiter::refusal::{Buffer, Refusal};
 use arbiter::{
     Decision, Granted, State, decide, first_station, headed, idle, opened, past, question,
@@ -110,10 +111,32 @@ fn asks_one(rt: HostRuntime) -> Result<(), Fail> {
 fn asks_several(rt: HostRuntime) -> Result<(), Fail> {
     assert!(rt; refused(question::bits(Buffer::Requests, 2, &[7, 0, 1, 2])) == (8, 3));
     assert!(rt; question::read(Buffer::Image, &[0, 1]) == Ok(1));
-    assert!(rt; refused(question::read(Buffer::Image, &[0, 2])) == (8, 1));
+    assert!(rt; refused_reading(question::read(Buffer::Image, &[0, 2])) == (8, 1, 2));
+    assert!(rt; refused_reading(question::read(Buffer::Image, &[1, 2, 255, 0])) == (8, 1, 255));
     assert!(rt; refused(question::state(&state(0, 9, None))) == (1, 0));
     assert!(rt; refused(question::write(&state(4, 2, None), 6, 5)) == (6, 0));
-    assert!(rt; refused(question::cycle(2, &[0, 2], 3)) == (6, 0));
-    assert!(rt; refused(question::cycle(2, &[0, 2], 2)) == (8, 1));
+    assert!(rt; question::cycle(2, &[0, 1], 2) == Ok(1));
+    assert!(rt; refused_reading(question::cycle(2, &[0, 2], 3)) == (6, 0, 0));
+    assert!(rt; refused_reading(question::cycle(2, &[0, 2], 2)) == (8, 1, 2));
     Ok(())
+}
+
+#[test]
+fn goes_on_as_a_refusal(rt: HostRuntime) -> Result<(), Fail> {
+    let above = RefusedReading {
+        refusal: Refusal::NotABit(Buffer::Image, 1),
+        highest: 2,
+    };
+    assert!(rt; question::read(Buffer::Image, &[0, 2]) == Err(above));
+    assert!(rt; Refusal::from(above) == above.refusal);
+    assert!(rt; RefusedReading::from(Refusal::Width).highest == 0);
+    Ok(())
+}
+
+// The number, the place and the highest byte of a refused reading; 0 for each where there is none.
+fn refused_reading(reading: Result<u8, RefusedReading>) -> (usize, usize, u8) {
+    match reading {
+        Ok(_) => (0, 0, 0),
+        Err(RefusedReading { refusal, highest }) => (refusal.number(), refusal.place(), highest),
+    }
 }

@@ -32,19 +32,23 @@ pub data Trace : Type 0 where
 abbrev pub runs : Symbol → Trace → Trace
 runs f t = calls (named f []) t
 
--- where a `?` leaves: of an Option it returns none, of a Result its error
+-- where a `?` leaves: of an Option it returns none, of a Result its error, made by a function into the caller's
 abbrev pub tries_option : Opd → Trace → Trace
 tries_option on t =
     runs "core::option::OptionTry::branch"
     (chooses on (case (0 ∷ []) end (case (1 ∷ []) (runs "core::option::OptionFromResidualNoValue::from_residual" (leaves end)) end)) t)
 
-abbrev pub tries_result : Opd → Trace → Trace
-tries_result on t =
+abbrev pub tries_result_by : Symbol → Opd → Trace → Trace
+tries_result_by from on t =
     runs "core::result::ResultTry::branch"
     (chooses on
     (case (0 ∷ []) end
-    (case (1 ∷ []) (calls (named "core::result::ResultFromResidualErrResidual::from_residual" ("core::convert::AnyFrom::from" ∷ [])) (leaves end)) end))
+    (case (1 ∷ []) (calls (named "core::result::ResultFromResidualErrResidual::from_residual" (from ∷ [])) (leaves end)) end))
     t)
+
+-- the same where the error stays as it is
+abbrev pub tries_result : Opd → Trace → Trace
+tries_result = tries_result_by "core::convert::AnyFrom::from"
 
 -- there is nothing to see
 abbrev pub silent : Trace → Bool

@@ -1,7 +1,7 @@
 -- Laws of the questions: what is known once all have passed, and what passes.
 -- Assumes nothing.
 use Rattle.std.specs.Prelude.{ℕ, ◌≤◌, ◌<◌, ◌≡◌, refl, Bool, true, false, ◌&&◌, List, [], ◌∷◌, eqb, leb, ltb, length, get_or, None, Some, Result, Ok, Err}
-use Rattle.std.proofs.Common.{sym, ap, arith, eq-eqb, eqb-true, leb-true, ltb-true, ltb-false, le-leb, lt-ltb, le-ltb}
+use Rattle.std.proofs.Common.{sym, ap, ◌∙◌, arith, eq-eqb, eqb-true, leb-true, ltb-true, ltb-false, le-leb, lt-ltb, le-ltb}
 use Rattle.rules.specs.Head.{Head}
 use Rattle.rules.specs.Lists.Laws as ListsLaws
 use Rattle.rules.specs.RoundRobin.{start}
@@ -11,9 +11,10 @@ use Rattle.arbiter.specs.declared.refusal.Buffer.{Buffer}
 use Rattle.arbiter.specs.declared.refusal.Buffer.TheVariants.{Requests}
 use Rattle.arbiter.specs.declared.refusal.Refusal.{Refusal}
 use Rattle.arbiter.specs.declared.refusal.Refusal.TheVariants.{NotABit}
+use Rattle.arbiter.specs.declared.question.RefusedReading.{RefusedReading}
 use Rattle.search.specs.Places.{Bits, highest}
 use Rattle.search.specs.Places.Laws.{Free, free_of, places_none, highest_bits, bits_highest}
-use Rattle.arbiter.specs.Questions.{Verdict, passed, refuse_unless, refuse_at_first, ◌then◌, max_width, max_picks, width, picks, one_pick, head, read_length, write_length, bits, state_questions, write_questions, cycle_questions}
+use Rattle.arbiter.specs.Questions.{Verdict, passed, refuse_unless, refuse_at_first, ◌then◌, max_width, max_picks, width, picks, one_pick, head, read_length, write_length, bits, state_questions, write_questions, cycle_questions, with_highest, read, cycle}
 
 -- it does not matter which questions are taken together
 pub then_assoc : {A : Type 0} (a b : Verdict) (c : Result A Refusal) → (a then b then c) ≡ (a then (b then c))
@@ -173,6 +174,27 @@ lends n requests size long room wires =
     then_passed (read_length n (length requests) then write_length n size) _
     (then_passed (read_length n (length requests)) _ (rw (eq-eqb (length requests) n long)) (rw (eq-eqb size n room)))
     (bits_passes Requests requests wires)
+
+-- the refusal alone, without the highest byte
+abbrev pub refusal_alone : Result ℕ RefusedReading → Result ℕ Refusal
+refusal_alone (Ok high) = Ok high
+refusal_alone (Err reading) = Err reading.refusal
+
+-- a reading is its questions and then the highest byte, but for the highest byte beside a refusal
+pub reading_alone : (before : Verdict) (buffer : Buffer) (bytes : List ℕ)
+    → refusal_alone (read before buffer bytes) ≡ (before then bits buffer 0 bytes then Ok (highest bytes))
+reading_alone (Err refusal) buffer bytes = refl
+reading_alone (Ok _) buffer bytes = told (bits buffer 0 bytes)
+  where
+    told : (v : Verdict) → refusal_alone (with_highest (highest bytes) v) ≡ (v then Ok (highest bytes))
+    told (Ok _) = refl
+    told (Err refusal) = refl
+
+-- where a cycle's requests have been read all its questions have passed
+pub cycle_read : {high : ℕ} (n : ℕ) (requests : List ℕ) (size : ℕ) → cycle n requests size ≡ Ok high
+    → (cycle_questions n requests size then Ok (highest requests)) ≡ Ok high
+cycle_read n requests size e =
+    sym (reading_alone (read_length n (length requests) then write_length n size) Requests requests) ∙ ap refusal_alone e
 
 -- a cycle that has asked all its questions in two steps has passed them, and has the highest byte in hand
 pub read_passed : {u : Unit {0}} {high : ℕ} (byState : Verdict) (n : ℕ) (requests : List ℕ) (size : ℕ) → byState ≡ Ok u

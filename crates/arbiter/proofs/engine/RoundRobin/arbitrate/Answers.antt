@@ -4,10 +4,10 @@ use Rattle.std.proofs.Common.{◌≡◌, ◌∙◌, sym, ap, List, length, repli
 use Rattle.arbiter.specs.Answers.{decided}
 use Rattle.arbiter.specs.Decisions.Laws.{quiet_decides, quiet_grants}
 use Rattle.search.specs.Places.{highest}
-use Rattle.arbiter.specs.Questions.Laws.{read_passed, ready, of_requests}
+use Rattle.arbiter.specs.Questions.Laws.{cycle_read, read_passed, ready, of_requests}
 use mathlib.Core.Path.{refl}
 use mir.Syntax.{Opd, Symbol}
-use Rattle.tracer.specs.Trace.{named, bound, trace, end, computes, calls, runs, leaves, either, tries_result}
+use Rattle.tracer.specs.Trace.{named, bound, trace, end, computes, calls, runs, leaves, either, tries_result, tries_result_by}
 use Rattle.arbiter.proofs.engine.RoundRobin.arbitrate.Code as code
 use Rattle.arbiter.proofs.engine.RoundRobin.arbitrate.Goals as goal
 
@@ -18,7 +18,7 @@ one_count : (on : Opd) × (on₂ : Opd) × (drops : List Symbol)
     ≡ runs "arbiter::question::state"
     (tries_result on
     (runs "arbiter::question::cycle"
-    (tries_result on₂
+    (tries_result_by "arbiter::question::RefusalFromRefusedReading::from" on₂
     (computes
     (either (calls (named "core::slice::edits::slice+T::fill" drops) (runs "arbiter::idle" (leaves end))) end
     (calls (bound 0 2) (leaves end))))))))
@@ -28,7 +28,7 @@ pub returns-then-high-eq0 : goal.returns-then-high-eq0
 returns-then-high-eq0 g c =
     let s = c.args.state.now in
     let requests = c.args.requests.now in
-    let k = read_passed _ s.width requests _ (sym c.state.ensures ∙ c.in_ok-state.was) (sym c.cycle.ensures ∙ c.in_ok-high.was) in
+    let k = read_passed _ s.width requests _ (sym c.state.ensures ∙ c.in_ok-state.was) (cycle_read s.width requests _ (sym c.cycle.ensures ∙ c.in_ok-high.was)) in
     let r = ready s requests (length c.args.grants.now) k.0 in
     let quiet : highest requests ≡ 0 = sym k.1 ∙ c.if-high-eq0.true in
     let zeros : c.fill.new.self ≡ replicate (length c.args.grants.now) 0 = c.fill.ensures.after (λ y e. e) in
@@ -41,7 +41,7 @@ pub invariant_of-cycle : goal.invariant_of-cycle
 invariant_of-cycle g c =
     let s = c.args.state.now in
     let requests = c.args.requests.now in
-    let k = read_passed _ s.width requests _ (sym c.state.ensures ∙ c.in_ok-state.was) (sym c.cycle.ensures ∙ c.in_ok-high.was) in
+    let k = read_passed _ s.width requests _ (sym c.state.ensures ∙ c.in_ok-state.was) (cycle_read s.width requests _ (sym c.cycle.ensures ∙ c.in_ok-high.was)) in
     let r = of_requests (ready s requests _ k.0) in
     record {
       width_bound = r.allows.most;
