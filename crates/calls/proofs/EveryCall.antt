@@ -11,7 +11,7 @@ use lib.ListN.{length, get_or, replicate, length-replicate}
 use borrow.Author.Tests.{ne_eqb}
 use Rattle.std.specs.Prelude.{Some}
 use Rattle.std.specs.List.{list_any}
-use Rattle.rules.specs.Lists.{range, count, member}
+use Rattle.rules.specs.Lists.{range, count}
 use Rattle.rules.specs.Lists.Laws as ListsLaws
 use Rattle.rules.proofs.Pending.Laws as PendingLaws
 use Rattle.rules.specs.Packing.{pack, unpack}
@@ -27,9 +27,7 @@ use Rattle.arbiter.specs.declared.refusal.Refusal.{Refusal}
 use Rattle.arbiter.specs.declared.refusal.Refusal.TheVariants.{Picks, Code}
 use Rattle.arbiter.specs.Questions.{Verdict, refuse_unless, ◌then◌}
 use Rattle.arbiter.specs.Answers as Answers
-use Rattle.arbiter.specs.Answers.{Effect, moved, with_picks, served, refused, if_passed, number, place, more, number_of, place_of}
-use Rattle.arbiter.specs.Refusals.{placing}
-use Rattle.arbiter.specs.Refusals.Laws.{placed}
+use Rattle.arbiter.specs.Answers.{Effect, moved, with_picks, served, refused, if_passed, number, more, number_of, place_of}
 use Rattle.arbiter.specs.Answers.Laws.{refusal_number, writes_refused}
 use Rattle.arbiter.specs.Cycle as RoundRobinCalls
 use Rattle.packed_scan.specs.Calls as PackedCalls
@@ -45,7 +43,7 @@ use Rattle.backlog.specs.Calls.{arrived, requests}
 use Rattle.backlog.specs.Calls.Laws.{backlog_served, backlog_refused}
 use Rattle.calls.specs.Calls.{Cycle, engine_cycle, bus_cycle, packed_cycle, backlog_cycle, Call, cycle, engine_opening, bus_opening, packed_opening, image_read, image_write, snapshot_read, snapshot_write, Made, ran, unwriting, writing, made, Step, run}
 use Rattle.calls.specs.Calls as Calls
-use Rattle.calls.specs.EveryCall.{HeadAfter, GrantsCounted, left_asking, MorePending, RefusedAsGiven, RefusedSkipped, PlaceZero, AdderAnswers}
+use Rattle.calls.specs.EveryCall.{HeadAfter, GrantsCounted, left_asking, MorePending, RefusedAsGiven, RefusedSkipped, AdderAnswers}
 
 -- how many bytes are 1
 abbrev ones : List ℕ → ℕ
@@ -221,13 +219,6 @@ refused_skipped s m c steps n =
     from : (steps : List Step) {q : State} → q ≡ with_picks s m → Calls.served (run q steps) ≡ Calls.served (run s steps)
     from [] e = refl
     from (k ∷ ks) e = rw e refl
-
-pub place_zero : PlaceZero
-place_zero s c = outcome_placed (made s c).answer.outcome
-  where
-    outcome_placed : (o : Result Granted Refusal) → (member (number_of o) placing ≡ true → ⊥) → place_of o ≡ 0
-    outcome_placed (Ok k) n = refl
-    outcome_placed (Err refusal) n = placed refusal n
 
 -- a served cycle by the round-robin rule ends with a station for a head
 rule_head : (s : State) (requests : List ℕ) (a : Answer Granted) (bytes : List ℕ) → Served s requests a bytes

@@ -1,2 +1,3 @@
 pub mod EveryCall
+pub mod Places
 pub mod Conservation

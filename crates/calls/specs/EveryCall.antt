@@ -1,12 +1,11 @@
 -- What holds of every call, whatever it is given. What a call answers and writes is said by the definition that its contract cites.
 -- Assumes nothing.
-use Rattle.std.specs.Prelude.{ℕ, ◌<◌, ◌≡◌, Bool, true, false, ◌&&◌, List, ◌∷◌, eqb, get_or, Some}
+use Rattle.std.specs.Prelude.{ℕ, ◌<◌, ◌≡◌, Bool, true, false, ◌&&◌, List, [], ◌∷◌, eqb, get_or, Some}
 use Rattle.std.specs.List.{list_any}
 use Rattle.rules.specs.Lists.{range, count, member}
 use Rattle.arbiter.specs.declared.State.{State}
 use Rattle.arbiter.specs.Answers as Answers
 use Rattle.arbiter.specs.Answers.{moved, with_picks, number, place, more, number_of, place_of}
-use Rattle.arbiter.specs.Refusals.{placing}
 use Rattle.search.specs.Places.{one_at}
 use Rattle.thermometer.specs.Adder as Adder
 use Rattle.calls.specs.Calls.{Cycle, Call, cycle, Made, ran, made, Step, run, served}
@@ -45,7 +44,11 @@ RefusedSkipped =
     → (number (ran (with_picks s m) c).answer ≡ 0 → ⊥)
     → served (run s (record { picks = m; call = cycle c } ∷ steps)) ≡ served (run s steps)
 
--- the place of an answer is 0 except for the questions that name one
+-- the questions of these calls that name a place
+abbrev pub placing : List ℕ
+placing = 8 ∷ 10 ∷ 14 ∷ 16 ∷ []
+
+-- the place of an answer is 0 for all others
 abbrev pub PlaceZero : Type 0
 PlaceZero = (s : State) (c : Call) → let r = made s c in (member (number r.answer) placing ≡ true → ⊥) → place r.answer ≡ 0
 

@@ -31,8 +31,8 @@ pub fn refused_skipped()
     ensures { RefusedSkipped }
 {}
 
-/// The place of an answer is 0 except for the questions that name one.
-#[tactic(auto, using(crate::proofs::EveryCall::place_zero))]
+/// The place of an answer is 0 except for 8, 10, 14 and 16.
+#[tactic(auto, using(crate::proofs::Places::place_zero))]
 pub fn place_zero()
     ensures { PlaceZero }
 {}

@@ -26,7 +26,7 @@ use Rattle.token_bus.specs.Calls.Laws as BusCallsLaws
 use Rattle.calls.specs.Calls.{Made, Step, run, served, asks, granted, Each}
 use Rattle.fairness.specs.Cycles.{Chain, Waits}
 use Rattle.fairness.specs.Kinds.{Kind, by_engines, with_messages, packed, by_rule, on_bus, any_picks, picks_of}
-use Rattle.fairness.specs.Waiting.{OneLeast, UnservedRefused, Wait, FewPicks, PicksBounded, PicksNoFewer, ceiling, WaitOf, BoundedWaiting, NotTwice, AsksUntilGranted, GrantedWithin, GrantedInTime, acknowledged, GrantedAcknowledged, BusBoundedWaiting}
+use Rattle.fairness.specs.Waiting.{OneLeastOfAny, OneLeast, UnservedRefused, Wait, FewPicks, PicksBounded, PicksNoFewer, ceiling, WaitOf, BoundedWaiting, NotTwice, AsksUntilGranted, GrantedWithin, GrantedInTime, acknowledged, GrantedAcknowledged, BusBoundedWaiting}
 use Rattle.fairness.proofs.Cycles.{chain_empty, resumed, waiting_cycles, bus_nearer}
 use Rattle.fairness.proofs.Calls.{run_picks, OfRule, Right, read, head_after, cycles, read_follows, read_total, fixed_picks, fixed_total, BusRight, next_token, bus_cycles}
 use Rattle.fairness.proofs.Sharpness.{Ruling, picks_rule, longest_wait, no_sooner, other_once, bus_no_sooner}
@@ -255,8 +255,11 @@ backlog_not_twice = twice with_messages messages_ruling
 pub backlog_unserved_refused : UnservedRefused with_messages
 backlog_unserved_refused = refused with_messages messages_ruling
 
+pub one_least_of_any : OneLeastOfAny
+one_least_of_any claim j k a b = omega (arith, a.least k b.holds, b.least j a.holds)
+
 pub one_least : OneLeast
-one_least test j k a b = omega (arith, a.least k b.holds, b.least j a.holds)
+one_least test = one_least_of_any (λ n. test n ≡ true)
 
 -- a list of bus calls from the state s
 module _ (s : State) (w : ℕ) where

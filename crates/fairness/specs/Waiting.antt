@@ -1,9 +1,8 @@
 -- The wait rule: over every list of calls of a kind, from any state, whoever asks. What a call answers and writes is what its engine
 -- promises.
 -- Assumes nothing.
-use Rattle.std.specs.Prelude.{ℕ, ◌+◌, ◌-◌, ◌/◌, ◌≤◌, ◌<◌, ◌≡◌, Bool, true, false, ◌&&◌, List, [], ◌∷◌, ◌++◌, ◌⊎◌, length, take}
+use Rattle.std.specs.Prelude.{ℕ, ◌+◌, ◌-◌, ◌/◌, ◌≤◌, ◌<◌, ◌≡◌, Bool, true, false, ◌&&◌, List, [], ◌∷◌, ◌++◌, ◌⊎◌, eqb, length, take}
 use Rattle.std.specs.List.{sum_by}
-use Rattle.rules.specs.Bus as BusRule
 use Rattle.rules.specs.Lists.{count}
 use Rattle.arbiter.specs.declared.State.{State}
 use Rattle.arbiter.specs.Answers.{with_picks}
@@ -19,7 +18,11 @@ pub record Least (claim : ℕ → Type 0) (k : ℕ) : Type 0 where
   pub holds : claim k
   pub least : (j : ℕ) → claim j → k ≤ j
 
--- so there is one such number at most; said of tests, since a claim about all claims is too large for a contract
+-- so there is one such number at most, whatever the claim
+abbrev pub OneLeastOfAny : Type 1
+OneLeastOfAny = (claim : ℕ → Type 0) (j k : ℕ) → Least claim j → Least claim k → j ≡ k
+
+-- so a contract says it: of tests, since a statement about all claims is too large for one
 abbrev pub OneLeast : Type 0
 OneLeast = (test : ℕ → Bool) (j k : ℕ) → Least (λ n. test n ≡ true) j → Least (λ n. test n ≡ true) k → j ≡ k
 
@@ -101,7 +104,7 @@ GrantedInTime k = (s : State) → k.Serves s → Least (GrantedWithin k s) (ceil
 
 -- a cycle is acknowledged: on the bus, with the acknowledge byte 1
 abbrev pub acknowledges : Cycle → Bool
-acknowledges (bus_cycle requests grants byte) = BusRule.acknowledged byte
+acknowledges (bus_cycle requests grants byte) = eqb byte 1
 acknowledges _ = false
 
 abbrev pub acknowledged : Made → Bool
