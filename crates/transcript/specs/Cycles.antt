@@ -16,7 +16,7 @@ use Rattle.transcript.specs.declared.first_line.Kind.{Kind}
 use Rattle.transcript.specs.declared.first_line.Kind.TheVariants.{RoundRobin, TokenBus}
 pub mod Laws
 
--- "It together with no head, for B with token 0"
+-- an engine opens with no head, the bus with token 0
 abbrev pub opening : Kind → ℕ → ℕ → Answer (Unit {0})
 opening (RoundRobin e) n m = EngineCalls.opening e n m None
 opening TokenBus n m = BusCalls.opening n m (Some 0)

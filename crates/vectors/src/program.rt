@@ -1,4 +1,6 @@
 // Inputs of the program against the texts that they give. The heading, which every text begins with, is left out.
+ghost use Rattle.std.specs.Prelude.{◌≤◌, length};
+
 use crate::conversions::byte;
 use std::fs;
 use std::rt::Files;
@@ -94,7 +96,9 @@ impl Program {
 }
 
 // Copies an input to the start of an array, and answers it there.
-fn copy<'a>(array: &'a mut [u8; READ_SIZE], input: &[u8]) -> &'a mut [u8] {
+fn copy<'a>(array: &'a mut [u8; READ_SIZE], input: &[u8]) -> &'a mut [u8]
+    ensures { length result.now ≤ READ_SIZE }
+{
     let length = input.len().min(READ_SIZE);
     let copied = &mut array[..length];
     copied.copy_from_slice(&input[..length]);

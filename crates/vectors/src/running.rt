@@ -2,6 +2,8 @@
 // order. Before each station the code is held to the model's count, past the last to the model's count of grants and the
 // thermometer arbiter's, which must grant those at whose sum the code changes. Exactly if a sum was cut off more are pending, by the
 // model and by the thermometer arbiter.
+ghost use Rattle.std.specs.Prelude.{◌≡◌, suc, min, length};
+
 use crate::{compare, engine, model, small};
 use arbiter::{Granted, State};
 use thermometer::adder::{self, Sum};
@@ -71,7 +73,9 @@ pub(crate) fn case(i: usize) -> Option<bool> {
 
 // Writes the running codes, by sums, behind the first of these bytes, and answers them all, before each station in the order, and
 // past the last; and whether a sum was cut off.
-fn running<'a>(s: State, requests: &[u8], bytes: &'a mut [u8; 9]) -> (&'a [u8], bool) {
+fn running<'a>(s: State, requests: &[u8], bytes: &'a mut [u8; 9]) -> (&'a [u8], bool)
+    ensures { length result.0.now ≡ suc (min 8 (length requests.now)) }
+{
     let model = model::of(s, requests);
     let codes = &mut bytes[..=requests.len().min(8)];
     let mut code = 0;
