@@ -1,11 +1,13 @@
 //! Opening an engine, and its cycle lines.
-ghost use Rattle.std.specs.Prelude.{◌≡◌, ◌+◌, ◌≤◌, ◌==◌, true, map, length, get_or, replicate};
+ghost use Rattle.std.specs.Prelude.{◌≡◌, ◌+◌, ◌*◌, ◌≤◌, ◌==◌, true, map, length, get_or, replicate};
 ghost use Rattle.std.specs.Fn.{ComputesKey};
 ghost use Rattle.std.specs.Slice.Iter.{split_callee};
 ghost use Rattle.text.specs.Characters.{line_feed};
 ghost use Rattle.text.specs.Output.{Written};
 ghost use Rattle.arbiter.specs.Answers as Answers;
 ghost use Rattle.arbiter.specs.Questions.{max_width};
+ghost use Rattle.engines.specs.Calls as EngineCalls;
+ghost use Rattle.token_bus.specs.Calls as BusCalls;
 ghost use Rattle.transcript.specs.Cycles as Cycles;
 ghost use Rattle.transcript.specs.Lines as Lines;
 ghost use Rattle.transcript.specs.Text as Text;
@@ -15,7 +17,7 @@ use crate::output;
 use arbiter::engine::Arbiter;
 use arbiter::refusal::Refusal;
 use arbiter::{Answer, Decision, Granted, MAX_WIDTH, State, first_station};
-use engines::Dispatch;
+use engines::{Dispatch, Engine};
 use std::slice::Split;
 use text::Output;
 use token_bus::TokenBus;
@@ -101,20 +103,54 @@ fn decide(kind: Kind, state: &State, line: &[u8], grants: &mut [u8]) -> Result<D
     let Some((stations, rest)) = line.split_at_checked(state.width) else {
         return Err(Refusal::ReadLength);
     };
-    let mut requests = [0u8; MAX_WIDTH];
-    let requests = &mut requests[..state.width];
-    read_wires(stations, requests);
     match (kind, rest) {
-        (Kind::RoundRobin(engine), []) => {
-            let mut nodes = [0; 2 * MAX_WIDTH];
-            let end = 2 * state.width;
-            engine.arbitrate(state, requests, grants, &mut nodes[..end])
-        }
+        (Kind::RoundRobin(engine), []) => by_engine(engine, state, stations, grants),
         (Kind::TokenBus, [b' ', acknowledge]) => {
-            TokenBus::arbitrate(state, requests, grants, wire(*acknowledge))
+            on_bus(state, stations, wire(*acknowledge), grants)
         }
         _ => Err(Refusal::ReadLength),
     }
+}
+
+// What an engine decides of a line of this many stations. The requests have their array here, so that a line that is refused by its
+// length clears none.
+fn by_engine(
+    engine: Engine,
+    state: &State,
+    stations: &[u8],
+    grants: &mut [u8],
+) -> Result<Decision, Refusal>
+    requires wide { state.now.width ≤ max_width }
+    requires long { length stations.now ≡ state.now.width }
+    requires zeros { grants.old ≡ replicate state.now.width 0 }
+    ensures value { Answers.answered state.now result ≡ (EngineCalls.cycle engine state.now (map Cycles.wire stations.now) (replicate state.now.width 0) (replicate (2 * state.now.width) 0)).answer }
+    ensures grants_after { grants.new ≡ (EngineCalls.cycle engine state.now (map Cycles.wire stations.now) (replicate state.now.width 0) (replicate (2 * state.now.width) 0)).grants }
+{
+    let mut requests = [0u8; MAX_WIDTH];
+    let requests = &mut requests[..state.width];
+    read_wires(stations, requests);
+    let mut nodes = [0; 2 * MAX_WIDTH];
+    let end = 2 * state.width;
+    engine.arbitrate(state, requests, grants, &mut nodes[..end])
+}
+
+// What the bus decides of such a line and an acknowledge byte.
+fn on_bus(
+    state: &State,
+    stations: &[u8],
+    acknowledge: u8,
+    grants: &mut [u8],
+) -> Result<Decision, Refusal>
+    requires wide { state.now.width ≤ max_width }
+    requires long { length stations.now ≡ state.now.width }
+    requires zeros { grants.old ≡ replicate state.now.width 0 }
+    ensures value { Answers.answered state.now result ≡ (BusCalls.cycle state.now (map Cycles.wire stations.now) (replicate state.now.width 0) acknowledge).answer }
+    ensures grants_after { grants.new ≡ (BusCalls.cycle state.now (map Cycles.wire stations.now) (replicate state.now.width 0) acknowledge).written }
+{
+    let mut requests = [0u8; MAX_WIDTH];
+    let requests = &mut requests[..state.width];
+    read_wires(stations, requests);
+    TokenBus::arbitrate(state, requests, grants, acknowledge)
 }
 
 // The bytes that the characters of the stations stand for. They are written by index, since of a slice that comes back from
