@@ -1,4 +1,4 @@
--- Traces by computing: each kind of code once, alone where something is seen of it, and under a condition.
+-- Traces by computing: each kind of code once, alone where something is seen of it, and under a condition; and what stands behind it.
 -- Assumes nothing.
 use Rattle.std.specs.Prelude.{◌≡◌, refl, List, [], ◌∷◌, map}
 use mir.Syntax.{tnil, dnil, dcons, impl, given, rattle_abi, Callee, fn, fn₀, method, forked, awaited, prim, loaded, ty_unit, c_unit, opd_true, opd_false, place, op1, op2, rv_opd, addr_of, aggregate, repeat, repeat_p, select, bit_not, bit_and, Body, skip, seq, assign, block, loop, cond, switch, exit, return, call, call_v, lend_static, unreachable, arm, default, no_default, Rv}
@@ -76,6 +76,16 @@ pub record KnownTraces : Type 0 where
   pub after : trace
       (seq (loop (exit 0)) (seq (cond opd_true asked skip) (seq (cond opd_true skip copied) (seq (switch opd_true (arm [] asked no_default)) (seq (switch opd_true no_default) met))))) end
       ≡ repeats (leaves end) (either (runs "f" end) end (chooses opd_true (case [] (runs "f" end) end) (computes end)))
+  -- a loop in a loop, and where each is left, with code behind where the inner one is and behind both
+  pub nested : trace (seq (block (loop (seq (block (loop (seq (exit 1) asked))) (exit 1)))) asked) end
+      ≡ repeats (repeats (leaves (runs "f" end)) (leaves end)) (runs "f" end)
+  -- behind an operation on one operand
+  pub after_one : trace (seq (set (op1 bit_not opd_true)) (seq copied (seq asked (seq (block met) return)))) end
+      ≡ computes (runs "f" (computes (leaves end)))
+  -- behind a table, a choice of lanes and an array of one value
+  pub after_others : trace
+      (seq pointed (seq (lend_static (place 0 []) ty_unit c_unit) (seq (set (select opd_true opd_true opd_true)) (seq (set (repeat_p opd_true 0)) unreachable)))) end
+      ≡ calls_pointer (reads ty_unit (computes (leaves end)))
   -- whom a call names
   pub callees : map called (fn₀ "f" ∷ of_impl ∷ method (given 2) 1 (tnil, dnil) ∷ []) ≡ named "f" [] ∷ named "f" ("g" ∷ "h" ∷ "i" ∷ "j" ∷ []) ∷ bound 2 1 ∷ []
   pub others : map called (method (impl [] tnil dnil) 0 (tnil, dnil) ∷ forked tnil (fn₀ "f") ∷ awaited tnil ∷ prim loaded ∷ []) ≡ other ∷ other ∷ other ∷ other ∷ []
@@ -109,6 +119,9 @@ known =
       silent_arms = refl;
       order = refl;
       after = refl;
+      nested = refl;
+      after_one = refl;
+      after_others = refl;
       callees = refl;
       others = refl;
     }
