@@ -61,11 +61,22 @@ fn join_all(picks: Picks, codes: &mut [u8], before: &mut [u8]) -> bool
     let mut distance: usize = 1;
     let mut cut = false;
     while distance < codes.len() {
-        before.copy_from_slice(codes);
+        copy(codes, before);
         cut |= join_at(picks, distance, before, codes);
         distance *= 2;
     }
     cut
+}
+
+// Copies the codes of a level. The library's `copy_from_slice` becomes a call whose loads are wider than the stores of the level
+// before, so the processor waits for those: with it a cycle of 64 stations took a third longer.
+fn copy(from: &[u8], to: &mut [u8])
+    requires { length from.now ≡ length to.old }
+    ensures { to.new ≡ from.now }
+{
+    for i in 0..to.len() {
+        to[i] = from[i];
+    }
 }
 
 // Joins the code of each position that is at least `distance` from the first to the code of the position that far before it, as it

@@ -3,7 +3,7 @@
 use Prim.Native.Nat.{ℕ}
 use mathlib.Core.Path.{◌≡◌, refl, ap, ◌∙◌}
 use mathlib.Core.Bool.{Bool, ◌||◌}
-use mathlib.Core.List.{List, [], ◌∷◌}
+use mathlib.Core.List.{List}
 use native.Mathlib.Omega.{arith}
 use lib.ListN.{length}
 use Rattle.rules.specs.KoggeStone.{joined, joined_cuts}
@@ -11,7 +11,7 @@ use Rattle.rules.proofs.KoggeStone.Laws as KoggeStoneLaws
 use Rattle.rules.proofs.KoggeStone.Laws.{Left}
 use Rattle.kogge_stone.specs.Steps.{Codes}
 use Rattle.kogge_stone.proofs.Codes.{joined_codes}
-use Rattle.tracer.specs.Trace.{named, trace, end, computes, calls, runs, leaves, either, repeats}
+use Rattle.tracer.specs.Trace.{trace, end, computes, runs, leaves, either, repeats}
 use Rattle.kogge_stone.proofs.network.join_all.Code as code
 use Rattle.kogge_stone.proofs.network.join_all.Goals as goal
 
@@ -20,7 +20,7 @@ one_level : trace (code.function).body end
     ≡ repeats
     (computes
     (either end (leaves end)
-    (calls (named "core::slice::edits::slice+T::copy_from_slice" ("core::clone::U8Clone::clone" ∷ []))
+    (runs "kogge_stone::network::copy"
     (runs "kogge_stone::network::join_at" (computes (computes end))))))
     (leaves end)
 one_level = refl
@@ -37,12 +37,12 @@ loop-distance-init c =
     (omega arith, omega arith, omega arith, c.requires.codes, KoggeStoneLaws.begin _ _ _ _ (omega arith))
 
 pub join_at-cut-requires-clause-codes : goal.join_at-cut-requires-clause-codes
-join_at-cut-requires-clause-codes c = as_codes _ c.copy_from_slice.ensures.after c.loop-distance.invariant.3
+join_at-cut-requires-clause-codes c = as_codes _ c.copy.ensures c.loop-distance.invariant.3
 
 pub loop-distance-preserved : goal.loop-distance-preserved
 loop-distance-preserved c =
     let l = c.loop-distance in
-    let same = c.copy_from_slice.ensures.after in
+    let same = c.copy.ensures in
     let new = c.join_at-cut.ensures.codes_after ∙ ap (joined _ l.distance) same in
     let cut = c.join_at-cut.ensures.value ∙ ap (joined_cuts _ l.distance) same in
     let d = c.loop-distance-test.true in (
