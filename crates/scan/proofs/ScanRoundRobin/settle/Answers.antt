@@ -1,0 +1,9 @@
+-- A cycle of the scan takes what is decided, and searches nothing again.
+-- Assumes nothing.
+use Rattle.std.specs.Prelude.{◌≡◌, refl}
+use Rattle.tracer.specs.Trace.{trace, end, runs, leaves}
+use Rattle.scan.proofs.ScanRoundRobin.settle.Code as code
+
+-- Read off the code: the state settles what is decided, and nothing else
+one_settling : trace (code.function).body end ≡ runs "arbiter::State::settle" (leaves end)
+one_settling = refl
